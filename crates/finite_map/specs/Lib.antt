@@ -1,0 +1,3 @@
+pub mod FiniteMap
+pub mod Hashed
+pub mod Links

@@ -1,0 +1,109 @@
+-- how a run ends behind what was printed before
+use Rattle.std.proofs.Common.{◌≡◌, ℕ, List, [], ◌∷◌, ◌++◌, length, ◌<◌, refl, sym, ap, ◌∙◌, append_assoc, subst, arith}
+use Rattle.std.specs.Prelude.{Option, Some, None, Result, Ok, Err, IfOk, IfErr, IsTrue, true, false}
+use Rattle.std.specs.Io.KnownBytes.{Appends, Keeps}
+use Rattle.script_text.specs.declared.line.ScriptCause.{ScriptCause}
+use Rattle.galera_run.specs.declared.fault.Finished.{Finished}
+use Rattle.galera_run.specs.declared.fault.RunFault.{RunFault}
+use Rattle.galera_run.specs.declared.fault.RunFault.TheVariants as stop
+use Rattle.galera_run.specs.declared.place.Place.{Place}
+use Rattle.galera_run.specs.declared.script.Script.{Script}
+use Rattle.galera_run.specs.Lines.{last_line}
+use Rattle.galera_run.specs.Reading.{Told, Run, told_at, told_from, front, follows, line_at, answer_line, run_told, ending_of, end_text}
+use Rattle.galera_run.specs.Writing.{AppendsFront}
+use Rattle.galera_run.specs.Feeding.{told_by, Runs, RunsCut, LineStops}
+use Rattle.galera_run.specs.Outcome.{TellsAll, TellsRefusal, EndStops}
+use Rattle.galera_run.proofs.Writes.{appends_both, front_of_nothing, keeps_appends}
+use Rattle.galera_run.proofs.Readings.{front_later, front_of_more}
+
+pub if_ok_map : {T E : Type 0} {P Q : T → Type 0} (r : Result T E) → ((x : T) → P x → Q x) → IfOk r P → IfOk r Q
+if_ok_map (Ok x) f p = f x p
+if_ok_map (Err e) f p = tt
+
+pub if_err_map : {T E : Type 0} {P Q : E → Type 0} (r : Result T E) → ((x : E) → P x → Q x) → IfErr r P → IfErr r Q
+if_err_map (Ok x) f p = tt
+if_err_map (Err e) f p = f e p
+
+-- a run with this text before its own
+abbrev pub run_behind : List ℕ → Run → Run
+run_behind text run = record { text = text ++ run.text; ending = run.ending }
+
+pub run_front : (text : List ℕ) (told : Told) → run_told (front text told) ≡ run_behind text (run_told told)
+run_front text told =
+    ap (λ (z : List ℕ). let r : Run = record { text = z; ending = ending_of told.reached } in r)
+    (append_assoc text told.text (end_text (ending_of told.reached)))
+
+pub tells_behind : (u v w : Option (List ℕ)) (text : List ℕ) (run : Run) (done : Finished) → Appends u v text →
+    TellsAll run v w done → TellsAll (run_behind text run) u w done
+tells_behind u v w text run done p t = record {
+  is_finished = record { cluster = t.is_finished.cluster; ending = t.is_finished.ending; events = t.is_finished.events };
+  written = appends_both u v w text run.text p t.written;
+}
+
+refusal_behind : (u v w : Option (List ℕ)) (text : List ℕ) (run : Run) (number : ℕ) (c : ScriptCause) → Appends u v text →
+    TellsRefusal run v w number c → TellsRefusal (run_behind text run) u w number c
+refusal_behind u v w text run number c p t = record {
+  ending = t.ending;
+  written = appends_both u v w text run.text p t.written;
+}
+
+pub stops_behind : (u v w : Option (List ℕ)) (text : List ℕ) (run : Run) (f : RunFault) → Appends u v text →
+    EndStops run v w f → EndStops (run_behind text run) u w f
+stops_behind u v w text run (stop.Script number c) p t = refusal_behind u v w text run number c p t
+stops_behind u v w text run stop.Read p t = t
+stops_behind u v w text run stop.Write p t = front_later u v w text run.text p t
+stops_behind u v w text run stop.NoMemory p t = front_later u v w text run.text p t
+
+-- the last line, which no newline ends
+last_is_line : (q : List ℕ) → 0 < length q → last_line q ≡ q ∷ []
+last_is_line [] h = absurd (omega arith)
+last_is_line (x ∷ xs) h = refl
+
+abbrev last_told : (p : Place) (q : List ℕ) → 0 < length q → told_from p (last_line q) ≡ follows p (line_at p q) told_at
+last_told p q h = ap (told_from p) (last_is_line q h)
+
+pub last_run : (p n : Place) (q : List ℕ) (u v : Option (List ℕ)) (r : Runs p n q u v) → 0 < length q →
+    run_told (told_from p (last_line q)) ≡ run_behind (answer_line p r.answer) (run_told (told_at n))
+last_run p n q u v r h =
+    ap run_told (last_told p q h ∙ ap (λ z. follows p z told_at) r.is_answer)
+    ∙ run_front (answer_line p r.answer) (told_at n)
+
+last_cut : (p : Place) (q : List ℕ) (u v : Option (List ℕ)) (r : RunsCut p q u v) → 0 < length q →
+    AppendsFront u v (run_told (told_from p (last_line q))).text
+last_cut p q u v r h =
+    let e : run_told (told_from p (last_line q)) ≡ run_behind (answer_line p r.answer) (run_told (told_at r.after)) =
+    ap run_told (last_told p q h ∙ ap (λ z. follows p z told_at) r.is_answer)
+    ∙ run_front (answer_line p r.answer) (told_at r.after) in
+    let P : Run → Type 0 = λ run. AppendsFront u v run.text in
+    subst P (sym e) (front_of_more u v (answer_line p r.answer) (run_told (told_at r.after)).text r.written)
+
+last_refused : (p : Place) (q : List ℕ) (u v : Option (List ℕ)) (number : ℕ) (c : ScriptCause) → 0 < length q →
+    (number ≡ p.number) × (line_at p q ≡ Err c) × Keeps u v →
+    TellsRefusal (run_told (told_from p (last_line q))) u v number c
+last_refused p q u v number c h t =
+    rw (t.0, last_told p q h, t.1) (record { ending = refl; written = keeps_appends u v t.2 })
+
+pub last_stops : (p : Place) (q : List ℕ) (u v : Option (List ℕ)) (f : RunFault) → 0 < length q → LineStops p q u v f →
+    EndStops (run_told (told_from p (last_line q))) u v f
+last_stops p q u v (stop.Script number c) h t = last_refused p q u v number c h t
+last_stops p q u v stop.Read h t = t
+last_stops p q u v stop.Write h t = last_cut p q u v t h
+last_stops p q u v stop.NoMemory h t = front_of_nothing u v (run_told (told_from p (last_line q))).text t
+
+-- a line that has begun has bytes
+pub has_begun : (q : List ℕ) → (q ≡ [] → IsTrue false) → 0 < length q
+has_begun [] f = let e : false ≡ true = f refl in absurd cc
+has_begun (x ∷ xs) f = omega arith
+
+-- the end behind a last line that was run
+pub tells_last : (p n : Place) (q : List ℕ) (u v w : Option (List ℕ)) (done : Finished) → 0 < length q → Runs p n q u v →
+    TellsAll (run_told (told_at n)) v w done → TellsAll (run_told (told_from p (last_line q))) u w done
+tells_last p n q u v w done h r t =
+    let P : Run → Type 0 = λ run. TellsAll run u w done in
+    subst P (sym (last_run p n q u v r h)) (tells_behind u v w (answer_line p r.answer) (run_told (told_at n)) done r.written t)
+
+pub stops_last : (p n : Place) (q : List ℕ) (u v w : Option (List ℕ)) (f : RunFault) → 0 < length q → Runs p n q u v →
+    EndStops (run_told (told_at n)) v w f → EndStops (run_told (told_from p (last_line q))) u w f
+stops_last p n q u v w f h r t =
+    let P : Run → Type 0 = λ run. EndStops run u w f in
+    subst P (sym (last_run p n q u v r h)) (stops_behind u v w (answer_line p r.answer) (run_told (told_at n)) f r.written t)

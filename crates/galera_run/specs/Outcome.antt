@@ -1,0 +1,53 @@
+-- what the top calls promise of a run over a source and a sink
+use Rattle.std.specs.Prelude.{◌≡◌, ℕ, List, [], ◌∷◌, ◌++◌, codes, decimal, map, string_bytes, Option, IfSome}
+use Rattle.std.specs.declared.string.String.{String}
+use Rattle.std.specs.Io.KnownBytes.{Appends, Consumes}
+use Rattle.script_text.specs.declared.line.ScriptCause.{ScriptCause}
+use Rattle.script_text.specs.declared.line.ScriptCause.TheVariants as cause
+use Rattle.cluster_core.specs.Run.{ModelCluster, order_len}
+use Rattle.galera_run.specs.declared.fault.RunFault.{RunFault}
+use Rattle.galera_run.specs.declared.fault.RunFault.TheVariants as stop
+use Rattle.galera_run.specs.declared.fault.Finished.{Finished}
+use Rattle.galera_run.specs.Reading.{Run, finished, refused, run_of, text_so_far}
+use Rattle.galera_run.specs.Writing.{AppendsFront}
+
+-- the run comes to the end of its input, with so many steps and events
+pub record IsFinished (run : Run) (done : Finished) : Type 0 where
+  pub cluster : ModelCluster
+  pub ending : run.ending ≡ finished done.steps cluster
+  pub events : done.events ≡ order_len cluster
+
+-- it does, and its whole text was written
+pub record TellsAll (run : Run) (old new : Option (List ℕ)) (done : Finished) : Type 0 where
+  pub is_finished : IsFinished run done
+  pub written : Appends old new run.text
+
+-- the run is refused at this line, and the text of the lines before it was written
+pub record TellsRefusal (run : Run) (old new : Option (List ℕ)) (number : ℕ) (c : ScriptCause) : Type 0 where
+  pub ending : run.ending ≡ refused number c
+  pub written : Appends old new run.text
+
+-- how a run may stop at the end of its input
+abbrev pub EndStops : Run → Option (List ℕ) → Option (List ℕ) → RunFault → Type 0
+EndStops run old new (stop.Script number c) = TellsRefusal run old new number c
+EndStops run old new stop.Read = ⊥
+EndStops run old new stop.Write = AppendsFront old new run.text
+EndStops run old new stop.NoMemory = AppendsFront old new run.text
+
+-- these bytes were read, and the text of their lines was written
+pub record TellsRead (left_old left_new old new : Option (List ℕ)) : Type 0 where
+  pub taken : List ℕ
+  pub read : Consumes left_old left_new taken
+  pub written : Appends old new (text_so_far taken)
+
+-- the run over the bytes left came to their end, and its whole text was written
+abbrev pub RunTells : Option (List ℕ) → Option (List ℕ) → Option (List ℕ) → Finished → Type 0
+RunTells left old new done = IfSome left (λ input. TellsAll (run_of input) old new done)
+
+-- how a run may stop, over a source with these bytes left before and after
+abbrev pub RunStops : Option (List ℕ) → Option (List ℕ) → Option (List ℕ) → Option (List ℕ) → RunFault → Type 0
+RunStops left_old left_new old new (stop.Script number c) =
+    IfSome left_old (λ input. TellsRefusal (run_of input) old new number c)
+RunStops left_old left_new old new stop.Read = TellsRead left_old left_new old new
+RunStops left_old left_new old new stop.Write = IfSome left_old (λ input. AppendsFront old new (run_of input).text)
+RunStops left_old left_new old new stop.NoMemory = IfSome left_old (λ input. AppendsFront old new (run_of input).text)

@@ -1,0 +1,73 @@
+-- what the program writes, and what each exit status says
+use Rattle.std.specs.Prelude.{◌≡◌, ◌⊎◌, ℕ, List, [], ◌∷◌, ◌++◌, codes, Option, IfSome}
+use Rattle.std.specs.Io.KnownBytes.{Appends, Consumes}
+use Rattle.outside_io.specs.Outside.{Rose}
+use Rattle.script_text.specs.declared.line.ScriptCause.{ScriptCause}
+use Rattle.script_text.specs.declared.line.ScriptCause.TheVariants as cause
+use Rattle.report_text.specs.Texts.{spaced}
+use Rattle.galera_run.specs.declared.fault.Finished.{Finished}
+use Rattle.galera_run.specs.Reading.{Run, Ending, finished, refused, run_of, text_so_far}
+use Rattle.galera_run.specs.Writing.{AppendsFront}
+use Rattle.galera_run.specs.Outcome.{TellsAll}
+
+-- the words are the command
+abbrev pub IsSteps : List (List ℕ) → Type 0
+IsSteps words = words ≡ codes "steps" ∷ []
+
+-- the text where the words are no command, and where the source failed
+abbrev pub usage_text : List ℕ
+usage_text = codes "USAGE\n"
+
+abbrev pub read_text : List ℕ
+read_text = codes "READ\n"
+
+abbrev pub cause_text : ScriptCause → List ℕ
+cause_text cause.Grammar = codes "grammar"
+cause_text cause.Limit = codes "limit"
+
+-- the last text where a line is refused
+abbrev pub refusal_text : ℕ → ScriptCause → List ℕ
+refusal_text number c = codes "SCRIPT" ++ spaced (number ∷ []) ++ codes " " ++ cause_text c ++ codes "\n"
+
+abbrev pub last_text : Ending → List ℕ
+last_text (finished steps cluster) = []
+last_text (refused number c) = refusal_text number c
+
+-- the whole text of a run over an input
+abbrev pub printed_of : List ℕ → List ℕ
+printed_of input = (run_of input).text ++ last_text (run_of input).ending
+
+-- the run came to the end of its input, and the whole text was written
+abbrev pub TellsEnd : Option (List ℕ) → Option (List ℕ) → Option (List ℕ) → Type 0
+TellsEnd left old new = IfSome left (λ input. (done : Finished) × TellsAll (run_of input) old new done)
+
+-- the run is refused at a line, and the whole text with that line and its cause was written
+pub record IsRefusal (input : List ℕ) (old new : Option (List ℕ)) : Type 0 where
+  pub number : ℕ
+  pub why : ScriptCause
+  pub ending : (run_of input).ending ≡ refused number why
+  pub written : Appends old new ((run_of input).text ++ refusal_text number why)
+
+abbrev pub TellsRefused : Option (List ℕ) → Option (List ℕ) → Option (List ℕ) → Type 0
+TellsRefused left old new = IfSome left (λ input. IsRefusal input old new)
+
+-- these bytes were read; the text of their lines was written, and that the source failed
+pub record TellsUnread (left_old left_new old new : Option (List ℕ)) : Type 0 where
+  pub taken : List ℕ
+  pub read : Consumes left_old left_new taken
+  pub written : Appends old new (text_so_far taken ++ read_text)
+
+-- a front of that was written
+pub record CutsUnread (left_old left_new old new : Option (List ℕ)) : Type 0 where
+  pub taken : List ℕ
+  pub read : Consumes left_old left_new taken
+  pub written : AppendsFront old new (text_so_far taken ++ read_text)
+
+-- a front of the whole text was written
+abbrev pub CutsText : Option (List ℕ) → Option (List ℕ) → Option (List ℕ) → Type 0
+CutsText left old new = IfSome left (λ input. AppendsFront old new (printed_of input))
+
+-- what went out is a front of the text of the run, which ends where the source fails
+abbrev pub CutsRun : Option (List ℕ) → Option (List ℕ) → ℕ → ℕ → Option (List ℕ) → Option (List ℕ) → Type 0
+CutsRun left_old left_new before now old new =
+    CutsText left_old old new ⊎ (Rose before now × CutsUnread left_old left_new old new)

@@ -1,0 +1,128 @@
+-- a run over the lines of an input: what it prints, and how it ends
+use Rattle.std.specs.Prelude.{ℕ, ◌+◌, ◌==◌, nat_le, nat_lt, List, [], ◌∷◌, ◌++◌, length, codes, decimal, Option, Some, None, Result, Ok, Err, if◌then◌else◌}
+use Rattle.order_event.specs.declared.step.Answer.{Answer}
+use Rattle.order_event.specs.declared.step.Step.{Step}
+use Rattle.script_text.specs.declared.line.Header.{Header}
+use Rattle.script_text.specs.declared.line.Line.{Line}
+use Rattle.script_text.specs.declared.line.Line.TheVariants as said
+use Rattle.script_text.specs.declared.line.ScriptCause.{ScriptCause}
+use Rattle.script_text.specs.declared.line.ScriptCause.TheVariants as cause
+use Rattle.script_text.specs.Grammar.{line_of, header_of}
+use Rattle.report_text.specs.Texts.{line_text, node_text}
+use Rattle.cluster_core.specs.Run.{ModelCluster, start_cluster, cluster_step, end_at, end_rows}
+use Rattle.galera_run.specs.declared.place.Opened.{Opened}
+use Rattle.galera_run.specs.declared.place.Place.{Place}
+use Rattle.galera_run.specs.Lines.{lines_of, whole_lines, without_newline}
+
+-- the most bytes of an input, and the most step lines
+abbrev pub most_bytes : ℕ
+most_bytes = 33_554_432
+
+abbrev pub most_steps : ℕ
+most_steps = 4_000
+
+-- before the first line
+abbrev pub start : Place
+start = record { number = 1; before = 0; steps = 0; state = None }
+
+-- behind a line, with so many steps run and the cluster as it is then
+abbrev pub behind : Place → List ℕ → ℕ → Opened → Place
+behind p line steps opened =
+    record { number = p.number + 1; before = p.before + length line; steps = steps; state = Some opened }
+
+-- the first line is the header; it begins the cluster
+abbrev pub opened_at : Place → List ℕ → Result Header ScriptCause → Result (Option Answer × Place) ScriptCause
+opened_at p line (Err c) = Err c
+opened_at p line (Ok header) =
+    Ok (None, behind p line p.steps (record { nodes = header.nodes; cluster = start_cluster header.id }))
+
+-- a step is answered, and the cluster stands as it left it
+abbrev pub answered_at : Place → List ℕ → Opened → Answer × ModelCluster → Option Answer × Place
+answered_at p line opened (answer, cluster) =
+    (Some answer, behind p line (p.steps + 1) (record opened { cluster = cluster }))
+
+-- a line behind the header; a step line too many is refused
+abbrev pub stepped_at : Place → List ℕ → Opened → Result Line ScriptCause → Result (Option Answer × Place) ScriptCause
+stepped_at p line opened (Err c) = Err c
+stepped_at p line opened (Ok said.Blank) = Ok (None, behind p line p.steps opened)
+stepped_at p line opened (Ok (said.Step step)) =
+    if nat_lt p.steps most_steps then Ok (answered_at p line opened (cluster_step opened.cluster step))
+    else Err cause.Limit
+
+abbrev pub read_at : Place → List ℕ → Option Opened → Result (Option Answer × Place) ScriptCause
+read_at p line None = opened_at p line (header_of (without_newline line))
+read_at p line (Some opened) = stepped_at p line opened (line_of opened.nodes (without_newline line))
+
+-- what a line at a place is answered, if it is a step, and where the run stands behind it; a line that passes the last byte allowed is refused, whatever it says
+abbrev pub line_at : Place → List ℕ → Result (Option Answer × Place) ScriptCause
+line_at p line =
+    if nat_le (p.before + length line) most_bytes then read_at p line p.state else Err cause.Limit
+
+-- what a line prints
+abbrev pub answer_line : Place → Option Answer → List ℕ
+answer_line p None = []
+answer_line p (Some answer) = line_text p.number answer
+
+-- where a run over some lines came to: behind them, or to the first line at fault
+pub data Reached : Type 0 where
+  place : Place → Reached
+  fault : ℕ → ScriptCause → Reached
+
+-- what was printed, and where that came to
+pub record Told : Type 0 where
+  pub text : List ℕ
+  pub reached : Reached
+
+abbrev pub front : List ℕ → Told → Told
+front text told = record { text = text ++ told.text; reached = told.reached }
+
+abbrev pub follows : Place → Result (Option Answer × Place) ScriptCause → (Place → Told) → Told
+follows p (Err c) later = record { text = []; reached = fault p.number c }
+follows p (Ok (answer, next)) later = front (answer_line p answer) (later next)
+
+-- behind the last line
+abbrev pub told_at : Place → Told
+told_at p = record { text = []; reached = place p }
+
+-- a run over lines from a place on
+abbrev pub told_from : Place → List (List ℕ) → Told
+told_from p [] = told_at p
+told_from p (line ∷ lines) = follows p (line_at p line) (λ next. told_from next lines)
+
+-- how a run over a whole input ends: with its steps run and a cluster, or refused at a line
+pub data Ending : Type 0 where
+  finished : ℕ → ModelCluster → Ending
+  refused : ℕ → ScriptCause → Ending
+
+-- an input without a header is refused behind its last line
+abbrev pub end_of : Place → Option Opened → Ending
+end_of p None = refused p.number cause.Grammar
+end_of p (Some opened) = finished p.steps opened.cluster
+
+abbrev pub ending_of : Reached → Ending
+ending_of (place p) = end_of p p.state
+ending_of (fault number c) = refused number c
+
+-- behind the answers the node's place and rows are printed, where all was read
+abbrev pub end_text : Ending → List ℕ
+end_text (finished steps cluster) = node_text 1 (end_at cluster) (end_rows cluster)
+end_text (refused number c) = []
+
+-- what the run over an input prints, and how it ends
+pub record Run : Type 0 where
+  pub text : List ℕ
+  pub ending : Ending
+
+abbrev pub run_told : Told → Run
+run_told told = record { text = told.text ++ end_text (ending_of told.reached); ending = ending_of told.reached }
+
+-- a run that ends with this cluster
+abbrev pub run_ended : ℕ → ModelCluster → Run
+run_ended steps cluster = record { text = end_text (finished steps cluster); ending = finished steps cluster }
+
+unfoldable pub run_of : List ℕ → Run
+run_of bytes = run_told (told_from start (lines_of bytes))
+
+-- what the lines print whose newline is among the bytes
+unfoldable pub text_so_far : List ℕ → List ℕ
+text_so_far bytes = (told_from start (whole_lines bytes)).text

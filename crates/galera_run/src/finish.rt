@@ -1,0 +1,86 @@
+ghost use Rattle.std.specs.Prelude.{◌≡◌, [], IfOk, IfErr};
+ghost use Rattle.report_text.specs.Texts.{node_text};
+ghost use Rattle.cluster_core.specs.Run.{end_at, end_rows};
+ghost use Rattle.galera_run.specs.Lines.{last_line};
+ghost use Rattle.galera_run.specs.Reading.{run_told, told_at, run_ended};
+ghost use Rattle.galera_run.specs.Feeding.{IsSound, HasWriteCause, told_by};
+ghost use Rattle.galera_run.specs.Outcome.{TellsAll, EndStops};
+
+use crate::fault::{Finished, RunFault};
+use crate::place::Place;
+use crate::print::print_lines;
+use crate::script::{Script, run_pending};
+use cluster_core::Cluster;
+use outside_io::Sink;
+use report_text::put_node;
+use script_text::ScriptCause;
+use std::alloc::Global;
+use wsrep_base::{ByteList, NoMemory};
+
+/// Ends the run at the end of the input: the last line needs no newline.
+pub(crate) fn finish<K: Sink>(
+    alloc: Global,
+    script: &mut Script,
+    out: &mut K,
+) -> Result<Finished, RunFault>
+    requires { IsSound script.old }
+    ensures ok { IfOk result (TellsAll (run_told (told_by last_line script.old [])) (K.written out.old) (K.written out.new)) }
+    ensures err { IfErr result (EndStops (run_told (told_by last_line script.old [])) (K.written out.old) (K.written out.new)) }
+    ensures cause { HasWriteCause (K.faults out.old) (K.faults out.new) result }
+{
+    if script.pending.is_empty() {
+        return end_at_place(alloc, &script.place, out);
+    }
+    match run_pending(alloc, script, out) {
+        Ok(()) => end_at_place(alloc, &script.place, out),
+        Err(fault) => Err(fault),
+    }
+}
+
+// Ends the run behind the last line.
+fn end_at_place<K: Sink>(alloc: Global, place: &Place, out: &mut K) -> Result<Finished, RunFault>
+    ensures ok { IfOk result (TellsAll (run_told (told_at place.now)) (K.written out.old) (K.written out.new)) }
+    ensures err { IfErr result (EndStops (run_told (told_at place.now)) (K.written out.old) (K.written out.new)) }
+    ensures cause { HasWriteCause (K.faults out.old) (K.faults out.new) result }
+{
+    match &place.state {
+        Some(opened) => print_end(alloc, place.steps, &opened.cluster, out),
+        None => Err(RunFault::Script {
+            line: place.number,
+            cause: ScriptCause::Grammar,
+        }),
+    }
+}
+
+// Prints the node's place and rows.
+fn print_end<K: Sink>(
+    alloc: Global,
+    steps: u64,
+    cluster: &Cluster,
+    out: &mut K,
+) -> Result<Finished, RunFault>
+    ensures ok { IfOk result (TellsAll (run_ended steps cluster.now) (K.written out.old) (K.written out.new)) }
+    ensures err { IfErr result (EndStops (run_ended steps cluster.now) (K.written out.old) (K.written out.new)) }
+    ensures cause { HasWriteCause (K.faults out.old) (K.faults out.new) result }
+{
+    match end_lines(alloc, cluster) {
+        Ok(text) => match print_lines(text.as_slice(), out) {
+            Ok(()) => Ok(Finished {
+                steps,
+                events: cluster.events(),
+            }),
+            Err(fault) => Err(fault),
+        },
+        Err(_) => Err(RunFault::NoMemory),
+    }
+}
+
+// The lines of the node.
+fn end_lines(alloc: Global, cluster: &Cluster) -> Result<ByteList, NoMemory>
+    ensures { IfOk result (λ text. text ≡ node_text 1 (end_at cluster.now) (end_rows cluster.now)) }
+{
+    let end = cluster.end()?;
+    let mut text = ByteList::new(alloc);
+    put_node(&mut text, 1, end.at, &end.rows)?;
+    Ok(text)
+}

@@ -1,0 +1,131 @@
+ghost use Rattle.std.specs.Prelude.{◌≡◌, ◌≢◌, ◌≤◌, ◌<◌, ◌⊎◌, ◌↔◌, map, string_bytes, IfOk, IsTrue};
+ghost use Rattle.std.specs.Io.KnownBytes.{Appends};
+ghost use Rattle.outside_io.specs.Outside.{Rose};
+ghost use Rattle.galera_run.specs.Writing.{AppendsFront};
+ghost use Rattle.galera_run.specs.Program.{IsSteps, usage_text, refusal_text, cause_text, TellsEnd, TellsRefused, TellsUnread, CutsRun};
+
+use crate::fault::RunFault;
+use crate::output::write_piece;
+use crate::run::run_steps;
+use itoa::Buffer;
+use outside_io::{Sink, Source};
+use script_text::ScriptCause;
+use std::alloc::Global;
+use wsrep_base::{ByteList, NoMemory};
+
+/// Does the command that the words behind the program's name are, and gives the exit status. The
+/// one command is `steps`: it runs the schedule that the source gives.
+///
+/// 0: all was read and the whole text was written. 1: the words are no command. 2: a line is
+/// outside the grammar or passes a limit. 3: the source failed. 4: the sink failed. 6: want of
+/// memory.
+pub fn galera_steps<S: Source, K: Sink>(
+    alloc: Global,
+    words: &[String],
+    input: &mut S,
+    out: &mut K,
+) -> u8
+    ensures finished { result ≡ 0 → IsSteps (map string_bytes words.now)
+        × TellsEnd (S.left input.old) (K.written out.old) (K.written out.new) }
+    // The words are no command: both directions.
+    ensures usage { result ≡ 1 → (¬ IsSteps (map string_bytes words.now))
+        × Appends (K.written out.old) (K.written out.new) usage_text }
+    ensures no_command { (¬ IsSteps (map string_bytes words.now)) → (result ≡ 1) ⊎ (result ≡ 4) }
+    ensures script { result ≡ 2 → IsSteps (map string_bytes words.now)
+        × TellsRefused (S.left input.old) (K.written out.old) (K.written out.new) }
+    ensures read { result ≡ 3 → IsSteps (map string_bytes words.now)
+        × Rose (S.faults input.old) (S.faults input.new)
+        × TellsUnread (S.left input.old) (S.left input.new) (K.written out.old) (K.written out.new) }
+    ensures write { result ≡ 4 → Rose (K.faults out.old) (K.faults out.new) }
+    // What went out is a front of the text.
+    ensures cut { result ≡ 4 → IsSteps (map string_bytes words.now)
+        → CutsRun (S.left input.old) (S.left input.new) (S.faults input.old) (S.faults input.new)
+        (K.written out.old) (K.written out.new) }
+    ensures no_other { (result ≤ 4) ⊎ (result ≡ 6) }
+{
+    if is_steps(words) {
+        do_steps(alloc, input, out)
+    } else {
+        end_with(out, b"USAGE\n", 1)
+    }
+}
+
+// Whether the words are the command.
+fn is_steps(words: &[String]) -> bool
+    ensures { IsTrue result ↔ IsSteps (map string_bytes words.now) }
+{
+    match words {
+        [word] => word.as_str() == "steps",
+        _ => false,
+    }
+}
+
+// Runs the schedule, and writes the last line where it stops.
+fn do_steps<S: Source, K: Sink>(alloc: Global, input: &mut S, out: &mut K) -> u8
+    ensures finished { result ≡ 0 → TellsEnd (S.left input.old) (K.written out.old) (K.written out.new) }
+    ensures script { result ≡ 2 → TellsRefused (S.left input.old) (K.written out.old) (K.written out.new) }
+    ensures read { result ≡ 3 → Rose (S.faults input.old) (S.faults input.new)
+        × TellsUnread (S.left input.old) (S.left input.new) (K.written out.old) (K.written out.new) }
+    ensures write { result ≡ 4 → Rose (K.faults out.old) (K.faults out.new) }
+    ensures cut { result ≡ 4 → CutsRun (S.left input.old) (S.left input.new) (S.faults input.old) (S.faults input.new)
+        (K.written out.old) (K.written out.new) }
+    ensures no_usage { result ≢ 1 }
+    ensures no_other { (result ≤ 4) ⊎ (result ≡ 6) }
+{
+    match run_steps(alloc, input, out) {
+        Ok(_) => 0,
+        Err(RunFault::Script { line, cause }) => end_refused(alloc, line, cause, out),
+        Err(RunFault::Read) => end_with(out, b"READ\n", 3),
+        Err(RunFault::Write) => 4,
+        Err(RunFault::NoMemory) => 6,
+    }
+}
+
+// Writes that this line is refused.
+fn end_refused<K: Sink>(alloc: Global, line: u64, cause: ScriptCause, out: &mut K) -> u8
+    ensures written { result ≡ 2 → Appends (K.written out.old) (K.written out.new) (refusal_text line cause) }
+    ensures write { result ≡ 4 → Rose (K.faults out.old) (K.faults out.new) }
+    ensures cut { result ≡ 4 → AppendsFront (K.written out.old) (K.written out.new) (refusal_text line cause) }
+    ensures no_other { (result ≡ 2) ⊎ (result ≡ 4) ⊎ (result ≡ 6) }
+{
+    match refusal_line(alloc, line, cause) {
+        Ok(text) => end_with(out, text.as_slice(), 2),
+        Err(_) => 6,
+    }
+}
+
+fn refusal_line(alloc: Global, line: u64, cause: ScriptCause) -> Result<ByteList, NoMemory>
+    ensures { IfOk result (λ text. text ≡ refusal_text line cause) }
+{
+    let mut text = ByteList::new(alloc);
+    let mut buffer = Buffer::new();
+    text.extend(b"SCRIPT ".as_slice())?;
+    text.extend(buffer.format(line).as_bytes())?;
+    text.push(b' ')?;
+    text.extend(cause_word(cause))?;
+    text.push(b'\n')?;
+    Ok(text)
+}
+
+fn cause_word(cause: ScriptCause) -> &'static [u8]
+    ensures { result.now ≡ cause_text cause }
+{
+    match cause {
+        ScriptCause::Grammar => b"grammar",
+        ScriptCause::Limit => b"limit",
+    }
+}
+
+// Writes the last line. The status is the one given, or 4 where the sink fails.
+fn end_with<K: Sink>(out: &mut K, text: &[u8], status: u8) -> u8
+    requires { status < 4 }
+    ensures written { result ≡ status → Appends (K.written out.old) (K.written out.new) text.now }
+    ensures write { result ≡ 4 → Rose (K.faults out.old) (K.faults out.new) }
+    ensures cut { result ≡ 4 → AppendsFront (K.written out.old) (K.written out.new) text.now }
+    ensures no_other { (result ≡ status) ⊎ (result ≡ 4) }
+{
+    match write_piece(out, text) {
+        Ok(()) => status,
+        Err(_) => 4,
+    }
+}

@@ -1,0 +1,94 @@
+ghost use Rattle.std.specs.Prelude.{◌≡◌, ◌<◌, true, false, length, IsTrue, OnOk, IfOk, IfErr};
+ghost use Rattle.std.specs.Io.KnownBytes.{IsAtEnd};
+ghost use Rattle.galera_run.specs.Feeding.{IsSound, Reads, ReadStops, HasReadCause, HasWriteCause, read_count};
+ghost use Rattle.galera_run.specs.Outcome.{RunTells, RunStops};
+
+use crate::fault::{Finished, RunFault};
+use crate::finish::finish;
+use crate::place::Place;
+use crate::script::{Script, feed};
+use outside_io::{Sink, Source};
+use std::alloc::Global;
+use wsrep_base::ByteList;
+
+// The length of the slice that each read is given.
+const PIECE: usize = 4096;
+
+/// Runs a schedule: prints what each step is answered, and at the end the node's place and rows.
+/// Each line is run as soon as it is whole. It stops at the first line at fault, and where the
+/// source or the sink fails.
+pub fn run_steps<S: Source, K: Sink>(
+    alloc: Global,
+    input: &mut S,
+    out: &mut K,
+) -> Result<Finished, RunFault>
+    ensures ok { IfOk result (RunTells (S.left input.old) (K.written out.old) (K.written out.new)) }
+    ensures err { IfErr result (RunStops (S.left input.old) (S.left input.new) (K.written out.old) (K.written out.new)) }
+    ensures read { HasReadCause (S.faults input.old) (S.faults input.new) result }
+    ensures write { HasWriteCause (K.faults out.old) (K.faults out.new) result }
+{
+    let mut script = Script {
+        place: Place {
+            number: 1,
+            before: 0,
+            steps: 0,
+            state: None,
+        },
+        pending: ByteList::new(alloc),
+    };
+    match read_all(alloc, &mut script, input, out) {
+        Ok(()) => finish(alloc, &mut script, out),
+        Err(fault) => Err(fault),
+    }
+}
+
+// Runs all whole lines of the source.
+fn read_all<S: Source, K: Sink>(
+    alloc: Global,
+    script: &mut Script,
+    input: &mut S,
+    out: &mut K,
+) -> Result<(), RunFault>
+    requires { IsSound script.old }
+    ensures ok { OnOk result (Reads (S.left input.old) (S.left input.new) script.old script.new (K.written out.old) (K.written out.new)) }
+    ensures end { OnOk result (IsAtEnd (S.left input.new)) }
+    ensures sound { OnOk result (IsSound script.new) }
+    ensures err { IfErr result (ReadStops (S.left input.old) (S.left input.new) script.old (K.written out.old) (K.written out.new)) }
+    ensures read { HasReadCause (S.faults input.old) (S.faults input.new) result }
+    ensures write { HasWriteCause (K.faults out.old) (K.faults out.new) result }
+{
+    'reads: loop {
+        match read_piece(alloc, script, input, out) {
+            Ok(true) => {}
+            Ok(false) => return Ok(()),
+            Err(fault) => return Err(fault),
+        }
+    }
+}
+
+// Runs the next piece of the source. False where there is none.
+fn read_piece<S: Source, K: Sink>(
+    alloc: Global,
+    script: &mut Script,
+    input: &mut S,
+    out: &mut K,
+) -> Result<bool, RunFault>
+    requires { IsSound script.old }
+    ensures ok { OnOk result (Reads (S.left input.old) (S.left input.new) script.old script.new (K.written out.old) (K.written out.new)) }
+    ensures sound { OnOk result (IsSound script.new) }
+    ensures more { IfOk result (λ more. (more ≡ true → read_count script.old < read_count script.new)
+        × (more ≡ false → IsAtEnd (S.left input.new))) }
+    ensures err { IfErr result (ReadStops (S.left input.old) (S.left input.new) script.old (K.written out.old) (K.written out.new)) }
+    ensures read { HasReadCause (S.faults input.old) (S.faults input.new) result }
+    ensures write { HasWriteCause (K.faults out.old) (K.faults out.new) result }
+{
+    let mut piece = [0; PIECE];
+    match input.read(&mut piece) {
+        Ok(0) => Ok(false),
+        Ok(count) => match feed(alloc, script, &piece[..count], out) {
+            Ok(()) => Ok(true),
+            Err(fault) => Err(fault),
+        },
+        Err(_) => Err(RunFault::Read),
+    }
+}

@@ -1,0 +1,15 @@
+pub mod PartsLemmas
+pub mod TableLemmas
+pub mod SortedLemmas
+pub mod WithKey
+pub mod ListLemmas
+pub mod Apart
+pub mod KindLaws
+pub mod MeetLemmas
+pub mod ProbeLemmas
+pub mod UnionLemmas
+pub mod UnionLaws
+pub mod CoverLaws
+pub mod KeyLaws
+pub mod Examples
+pub mod AllLemmas

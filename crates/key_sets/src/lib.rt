@@ -1,0 +1,19 @@
+//! The keys that certification compares: kinds, parts, and sets of keys that conflict or touch.
+#![tactic(auto)]
+
+mod fault;
+mod key_set;
+mod kind;
+mod laws;
+mod parts;
+mod relation;
+mod test;
+#[cfg(test)]
+mod tests;
+
+pub use fault::KeyFault;
+pub use key_set::{KeyList, KeySet, conflicts, touches};
+pub use kind::Kind;
+pub use laws::{key_set_laws, kind_laws};
+pub use parts::Parts;
+pub use test::PartsTest;

@@ -1,0 +1,4 @@
+pub mod Again
+pub mod Fields
+pub mod Loop
+pub mod Takes

@@ -1,0 +1,22 @@
+ghost use Rattle.std.specs.Prelude.{ℕ, List, Option, ◌<◌, length};
+ghost use Rattle.std.specs.Io.KnownBytes.{WriteAppends};
+ghost use Rattle.outside_io.specs.Outside.{HasCause, WritesSome};
+
+use crate::Failed;
+
+/// Where bytes go.
+pub trait Sink {
+    /// The bytes written, where the sink tells them.
+    ghost written: { Self → Option (List ℕ) };
+
+    /// How often a write has failed.
+    ghost faults: { Self → ℕ };
+
+    /// Writes the first bytes of the piece, at least one, and says how many they are. After
+    /// `Failed` the bytes written are the same.
+    fn write(&mut self, piece: &[u8]) -> Result<usize, Failed>
+        requires { 0 < length piece.now }
+        ensures some { WritesSome result piece.now }
+        ensures bytes { WriteAppends (written self.old) (written self.new) result piece.now }
+        ensures cause { HasCause (faults self.old) (faults self.new) result };
+}

@@ -1,0 +1,13 @@
+//! The text that a run prints: of the answer of each step, and of the rows of each node at the end.
+#![tactic(auto)]
+
+mod answers;
+mod nodes;
+mod parts;
+mod replies;
+
+pub use answers::put_answer;
+pub use nodes::put_node;
+
+#[cfg(test)]
+mod tests;

@@ -1,0 +1,152 @@
+ghost use Rattle.std.specs.Prelude.{◌≡◌, ◌≤◌, ◌++◌, length, take, drop};
+ghost use Rattle.row_model.specs.Rows.{row_of, value_in, changed};
+
+use crate::ops::Change;
+use item_list::ItemList;
+use std::marker::Model;
+
+/// Where a row stands: the names of its table and of the row, each padded with zero bytes.
+#[derive(Clone, Copy, Debug, PartialEq, Eq, PartialOrd, Ord, Hash)]
+pub struct RowId {
+    pub table: [u8; 16],
+    pub row: [u8; 16],
+}
+
+/// The values of one row, 1 to 8 of them.
+#[derive(Clone, Copy, Debug, PartialEq, Eq)]
+pub struct Row {
+    count: usize,
+    values: [u64; 8],
+}
+
+impl Model for Row {
+    ghost use Rattle.std.specs.Prelude.{List, ℕ, ◌≤◌, ◌-◌, ◌++◌, length, take, replicate};
+    ghost use Rattle.row_model.specs.Padding.{IsPadded, count_again, values_again};
+
+    ghost Value = { List ℕ };
+
+    ghost view = { λ row. take row.count row.values };
+
+    // The cells behind the values are 0, so that equal rows have equal cells.
+    ghost invariant = { λ row. IsPadded row.count row.values };
+
+    ghost inverse = { λ xs. record { count = length xs; values = xs ++ replicate (8 - length xs) 0 } };
+
+    ghost inverse_ok = { λ row kept. λ i. record { count = count_again row.count row.values kept i; values = values_again row.count row.values kept i } };
+}
+
+impl Row {
+    /// The most values of a row.
+    pub const MOST: usize = 8;
+
+    /// The row with these values. None where there are none or more than 8.
+    pub fn of(values: &[u64]) -> Option<Row>
+        ensures { result ≡ row_of values.now }
+    {
+        if values.is_empty() || values.len() > Row::MOST {
+            return None;
+        }
+        let mut cells = [0; 8];
+        cells[..values.len()].copy_from_slice(values);
+        Some(Row {
+            count: values.len(),
+            values: cells,
+        })
+    }
+
+    /// The value in a column, counted from 1. None where the row has no such column.
+    pub fn get(&self, column: u8) -> Option<u64>
+        ensures { result ≡ value_in self.now column }
+    {
+        if column == 0 || usize::from(column) > self.count {
+            return None;
+        }
+        Some(self.values[usize::from(column) - 1])
+    }
+
+    /// Its values, by column.
+    pub fn values(&self) -> &[u64]
+        ensures value { result.now ≡ self.now }
+        ensures some { 1 ≤ length result.now }
+        ensures few { length result.now ≤ 8 }
+    {
+        &self.values[..self.count]
+    }
+
+    /// The row with the named columns that it has set anew.
+    pub(crate) fn changed(self, change: &Change) -> Row
+        ensures { result ≡ changed self change.now }
+    {
+        let mut values = self.values;
+        set_columns(&mut values, self.count, change);
+        Row {
+            count: self.count,
+            values,
+        }
+    }
+}
+
+// The first `count` cells, where the change names their columns.
+fn set_columns(values: &mut [u64; 8], count: usize, change: &Change)
+    requires { count ≤ 8 }
+    ensures { values.new ≡ changed (take count values.old) change.now ++ drop count values.old }
+{
+    for at in 0..count {
+        match change[at] {
+            Some(value) => values[at] = value,
+            None => {}
+        }
+    }
+}
+
+/// A row and where it stands.
+#[derive(Clone, Copy, Debug, PartialEq, Eq)]
+pub struct RowItem {
+    pub id: RowId,
+    pub row: Row,
+}
+
+/// Rows, in the order in which they were pushed.
+pub type RowList = ItemList<RowItem>;
+
+#[cfg(test)]
+mod tests {
+    use super::*;
+    use crate::{Op, apply_op};
+
+    #[test]
+    fn rows_have_one_to_eight_values(rt: HostRuntime) {
+        assert!(rt; Row::of(&[]).is_none());
+        assert!(rt; Row::of(&[1, 2, 3, 4, 5, 6, 7, 8, 9]).is_none());
+        let Some(row) = Row::of(&[1, 2, 3, 4, 5, 6, 7, 8]) else {
+            return assert!(rt; false, "eight values are a row");
+        };
+        assert_eq!(rt; row.values(), [1, 2, 3, 4, 5, 6, 7, 8].as_slice());
+        for (column, want) in [(0, None), (1, Some(1)), (8, Some(8)), (9, None)] {
+            assert_eq!(rt; row.get(column), want, "column {column}");
+        }
+        assert!(rt; Row::of(&[1, 2, 3, 4, 5, 6, 7, 8]) == Some(row));
+        assert!(rt; Row::of(&[1, 2]) != Row::of(&[1, 2, 0]));
+    }
+
+    #[test]
+    fn changes_are_done_on_one_row(rt: HostRuntime) {
+        let id = RowId {
+            table: *b"acct\0\0\0\0\0\0\0\0\0\0\0\0",
+            row: *b"a\0\0\0\0\0\0\0\0\0\0\0\0\0\0\0",
+        };
+        // The third column is named and the row lacks it.
+        let update = Op::Update(id, [Some(70), None, Some(9), None, None, None, None, None]);
+        assert!(rt; update.id() == id);
+        assert!(rt; apply_op(Row::of(&[100, 7]), &update) == Row::of(&[70, 7]));
+        assert!(rt; apply_op(None, &update).is_none());
+        let delete = Op::Delete(id);
+        assert!(rt; apply_op(Row::of(&[100, 7]), &delete).is_none());
+        assert!(rt; apply_op(None, &delete).is_none());
+        if let Some(row) = Row::of(&[1]) {
+            let insert = Op::Insert(id, row);
+            assert!(rt; apply_op(None, &insert) == Row::of(&[1]));
+            assert!(rt; apply_op(Row::of(&[100, 7]), &insert) == Row::of(&[1]));
+        }
+    }
+}

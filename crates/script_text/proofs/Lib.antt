@@ -1,0 +1,5 @@
+mod Examples
+mod NumberLemmas
+mod ValueLemmas
+mod WordLemmas
+pub mod FitLemmas

@@ -1,0 +1,37 @@
+ghost use Rattle.std.specs.Prelude.{◌≡◌};
+ghost use Rattle.script_text.specs.Grammar.{call_of, insert_of};
+
+use crate::fields::{only_row, row_id, values};
+use crate::words::{Words, alone, is};
+use row_model::Call;
+
+// What a client asks.
+#[tactic(auto, unfolding(crate::specs::Grammar::call_of))]
+pub(crate) fn call(words: &mut Words) -> Option<Call>
+    ensures { result ≡ call_of words.old }
+{
+    let verb = words.next()?;
+    if is(verb, b"begin") {
+        alone(Call::Begin(0), words)
+    } else if is(verb, b"insert") {
+        insert(words)
+    } else if is(verb, b"read") {
+        Some(Call::Read(only_row(words)?))
+    } else if is(verb, b"commit") {
+        alone(Call::Commit, words)
+    } else if is(verb, b"poll") {
+        alone(Call::Poll, words)
+    } else {
+        None
+    }
+}
+
+#[tactic(auto, unfolding(crate::specs::Grammar::insert_of))]
+fn insert(words: &mut Words) -> Option<Call>
+    ensures { result ≡ insert_of words.old }
+{
+    let table = words.next()?;
+    let row = words.next()?;
+    let id = row_id(table, row)?;
+    Some(Call::Insert(id, values(words)?))
+}

@@ -1,0 +1,12 @@
+//! The grammar of schedules: what one line says, or why it says nothing.
+#![tactic(auto)]
+
+mod calls;
+mod fields;
+mod line;
+mod parse;
+mod steps;
+mod words;
+
+pub use line::{Header, Line, ScriptCause};
+pub use parse::{parse_header, parse_line};

@@ -1,0 +1,4 @@
+pub mod OverlayLemmas
+pub mod OwnedRowsLemmas
+pub mod RowTableLemmas
+pub mod SortedLemmas

@@ -1,0 +1,12 @@
+pub mod Steps
+pub mod Loops
+pub mod RulesOf
+pub mod Puts
+pub mod Fields
+pub mod NameLaws
+pub mod Bounds
+pub mod KeyLaws
+pub mod SetLaws
+pub mod OpLaws
+pub mod WholeLaws
+pub mod PartLaws

@@ -1,0 +1,100 @@
+//! What is left of the bytes, and how many went before.
+
+ghost use Rattle.std.specs.Prelude.{◌≡◌, ◌+◌, ◌==◌, ◌≤◌, ◌<◌, ◌^◌, length, IfOk};
+ghost use Rattle.std.specs.Int.{w8, w32, w64};
+ghost use Rattle.write_set.specs.Place.{place_in};
+ghost use Rattle.write_set.specs.Reading.{Gives, bytes_at, number_at};
+
+use crate::fault::WsFault;
+use std::marker::Model;
+
+/// A place in the bytes.
+#[derive(Debug, Drop)]
+pub(crate) struct Cursor<'a> {
+    left: &'a [u8],
+    at: usize,
+}
+
+impl<'a> Model for Cursor<'a> {
+    ghost use Rattle.std.specs.Prelude.{◌+◌, ◌<◌, ◌^◌, length};
+    ghost use Rattle.write_set.specs.Place.{Place};
+
+    ghost Value = { Place };
+
+    ghost view = { λ cursor. record { left = cursor.left.now; at = cursor.at } };
+
+    ghost invariant = { λ cursor. cursor.at + length cursor.left.now < 2 ^ 63 };
+}
+
+impl<'a> Cursor<'a> {
+    pub fn new(bytes: &'a [u8], at: usize) -> Cursor<'a>
+        requires { at ≤ length bytes.now }
+        ensures { result ≡ place_in bytes.now at }
+    {
+        Cursor {
+            left: &bytes[at..],
+            at,
+        }
+    }
+
+    /// How many bytes went before.
+    pub fn at(&self) -> usize
+        ensures value { result ≡ self.now.at }
+        ensures small { result + length self.now.left < 2 ^ 63 }
+    {
+        self.at
+    }
+
+    pub fn is_at_end(&self) -> bool
+        ensures { result ≡ (length self.now.left == 0) }
+    {
+        self.left.is_empty()
+    }
+
+    /// The next `count` bytes.
+    #[tactic(auto, unfolding(crate::specs::Reading::bytes_at))]
+    pub fn bytes(self, count: usize) -> Result<(&'a [u8], Cursor<'a>), WsFault>
+        ensures read { Gives (λ x. (x.0.now, x.1)) result (bytes_at count self.entry) }
+        ensures all { IfOk result (λ x. length x.0.now ≡ count) }
+    {
+        if self.left.len() < count {
+            return Err(WsFault::Short(self.at));
+        }
+        let (front, left) = self.left.split_at(count);
+        Ok((
+            front,
+            Cursor {
+                left,
+                at: self.at + count,
+            },
+        ))
+    }
+
+    #[tactic(auto, unfolding(crate::specs::Reading::number_at))]
+    pub fn number8(self) -> Result<(u8, Cursor<'a>), WsFault>
+        ensures { Gives (λ x. (x.0, x.1)) result (number_at w8 self.entry) }
+    {
+        let (field, after) = self.bytes(1)?;
+        Ok((field[0], after))
+    }
+
+    #[tactic(auto, unfolding(crate::specs::Reading::number_at))]
+    pub fn number32(self) -> Result<(u32, Cursor<'a>), WsFault>
+        ensures { Gives (λ x. (x.0, x.1)) result (number_at w32 self.entry) }
+    {
+        let (field, after) = self.bytes(4)?;
+        let number = u32::from_be_bytes([field[0], field[1], field[2], field[3]]);
+        Ok((number, after))
+    }
+
+    #[tactic(auto, unfolding(crate::specs::Reading::number_at))]
+    pub fn number64(self) -> Result<(u64, Cursor<'a>), WsFault>
+        ensures { Gives (λ x. (x.0, x.1)) result (number_at w64 self.entry) }
+    {
+        let (field, after) = self.bytes(8)?;
+        let number = u64::from_be_bytes([
+            field[0], field[1], field[2], field[3], field[4], field[5], field[6], field[7],
+        ]);
+        Ok((number, after))
+    }
+}

@@ -1,0 +1,24 @@
+//! Write sets and their bytes: one spelling for each valid write set, and the first fault of
+//! bytes that are none.
+#![tactic(auto)]
+
+mod changes;
+mod cursor;
+mod fault;
+mod keys;
+mod laws;
+mod names;
+mod reading;
+mod rules;
+mod write_set;
+mod writing;
+
+pub use fault::WsFault;
+pub use laws::one_spelling;
+pub use reading::{decode, read_keys, read_ops};
+pub use rules::is_valid;
+pub use write_set::WriteSet;
+pub use writing::{encode, put_keys, put_ops};
+
+#[cfg(test)]
+mod tests;
