@@ -1,1 +1,12 @@
 pub mod FoldLaws
+pub mod CommitLaws
+pub mod VerdictLaws
+pub mod Examples
+pub mod RowLemmas
+pub mod TreeLemmas
+pub mod ExtremeLemmas
+pub mod TrxLemmas
+pub mod MemberLemmas
+pub mod OpenLemmas
+pub mod ScanLemmas
+pub mod WholeLemmas

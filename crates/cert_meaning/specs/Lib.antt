@@ -1,2 +1,6 @@
 pub mod State
+pub mod Verdict
 pub mod Fold
+pub mod Roomy
+pub mod Extremes
+pub mod Whole

@@ -1,2 +1,19 @@
 //! What an order of events means: the state that each event leads to, the same on every node.
 #![tactic(auto)]
+
+mod fragments;
+mod items;
+mod judging;
+mod members;
+mod open_table;
+mod row_table;
+mod sets;
+mod state;
+
+pub use items::{CommitItem, CommitList, Fragment, FragmentList, JudgedList, Told};
+pub use judging::verdicts;
+pub use members::Standing;
+pub use state::FoldState;
+
+#[cfg(test)]
+mod tests;

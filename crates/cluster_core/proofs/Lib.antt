@@ -1,3 +1,6 @@
-pub mod LiveLemmas
-pub mod FitLemmas
-pub mod StandLemmas
+pub mod ActLaws
+pub mod DrainLaws
+pub mod RunLaws
+pub mod SeatLaws
+pub mod StepLemmas
+pub mod UnitsKept

@@ -1,7 +1,6 @@
-pub mod RowTable
-pub mod Live
-pub mod Client
+pub mod Acts
+pub mod Drain
+pub mod Faults
+pub mod Seated
+pub mod State
 pub mod Steps
-pub mod Run
-pub mod Stands
-pub mod Moves

@@ -1,93 +1,64 @@
--- the steps of the node over the order
-use Rattle.std.specs.Prelude.{ℕ, ◌+◌, ◌==◌, ◌&&◌, not, Bool, true, false, List, [], ◌∷◌, ◌++◌, length, slice_get, Option, Some, None, is_some, if◌then◌else◌}
-use Rattle.row_model.specs.declared.calls.Reply.TheVariants as reply
-use Rattle.order_event.specs.declared.step.Answer.{Answer}
-use Rattle.order_event.specs.declared.step.Answer.TheVariants as answer
-use Rattle.order_event.specs.declared.event.Event.{Event}
-use Rattle.order_event.specs.declared.event.Event.TheVariants.{Write, View, Report}
-use Rattle.order_event.specs.declared.event.Message.{Message}
-use Rattle.order_event.specs.declared.event.Message.TheVariants as message
-use Rattle.write_set.specs.declared.write_set.WriteSet.{WriteSet}
-use Rattle.write_set.specs.Reading.{decoded}
-use Rattle.cert_meaning.specs.Fold.{judged, committed_ops}
-use Rattle.cluster_core.specs.declared.trx.Status.{Status}
-use Rattle.cluster_core.specs.declared.trx.Status.TheVariants.{Running, CommitSent, Certified}
-use Rattle.cluster_core.specs.declared.node.Node.{Node}
-use Rattle.cluster_core.specs.Live.{Live, with_status}
-use Rattle.cluster_core.specs.Client.{with_live}
+-- what a step of a cluster leaves where it could not be done
+use Rattle.std.specs.Prelude.{◌≡◌, ◌≤◌, ◌<◌, ℕ, Bool, true, false, List, [], ◌∷◌, Result, MatchResult, IsTrue}
+use Rattle.std.specs.List.{AllByRecursion}
+use Rattle.order_event.specs.declared.step.Act.{Act}
+use Rattle.order_event.specs.declared.step.Act.TheVariants as act
+use Rattle.node_meaning.specs.Cluster.{ModelCluster, cluster_step}
+use Rattle.cluster_core.specs.declared.fault.StepFault.{StepFault}
+use Rattle.cluster_core.specs.declared.fault.StepFault.TheVariants as fault
 
--- a message that is ordered becomes an event of the one member
-abbrev pub event_of : Message → Event
-event_of (message.Write body) = Write 1 body
-event_of (message.Report number) = Report 1 number
+-- the session of a step is 1 to 32
+abbrev pub has_session : Act → Type 0
+has_session (act.Client session call) = (1 ≤ session) × (session ≤ 32)
+has_session other = Unit {0}
 
--- the oldest message that waits takes the next number
-abbrev pub ordered : List Event → Node → List Message → Answer × (List Event × Node)
-ordered order n [] = (answer.Nothing, (order, n))
-ordered order n (sent ∷ rest) =
-    (answer.Ordered (length order + 1), (order ++ event_of sent ∷ [], record n { outbox = rest }))
+-- the steps that a drain is made of
+abbrev pub is_part : Act → Bool
+is_part act.Order = true
+is_part act.Take = true
+is_part act.Certify = true
+is_part (act.Start number) = true
+is_part (act.Finish number) = true
+is_part act.Advance = true
+is_part (act.Client session call) = false
+is_part act.Report = false
+is_part act.Status = false
+is_part act.Drain = false
+is_part act.Leave = false
+is_part (act.Join fresh) = false
+is_part (act.Transfer donor) = false
 
--- the next event of the order is taken
-abbrev pub taken : Node → Option Event → Answer × Node
-taken n None = (answer.Nothing, n)
-taken n (Some event) = (answer.Took (n.taken + 1), record n { taken = n.taken + 1 })
+-- the cluster after some steps of one node
+unfoldable pub after_acts : ModelCluster → ℕ → List Act → ModelCluster
+after_acts c node [] = c
+after_acts c node (a ∷ acts) = after_acts (cluster_step c (record { node = node; act = a })).1 node acts
 
-abbrev pub after_pass : ℕ → Status → Status
-after_pass number Running = Running
-after_pass number CommitSent = Certified number
-after_pass number (Certified earlier) = Certified earlier
+-- some of the steps that a drain of the node is made of were done
+pub record DrainedPartly (node : ℕ) (old new : ModelCluster) : Type 0 where
+  pub acts : List Act
+  pub parts : AllByRecursion (λ a. IsTrue (is_part a)) acts
+  pub is : new ≡ after_acts old node acts
 
--- the write set of the transaction with this begin number passed
-abbrev pub passed_at : ℕ → ℕ → Option Live → Option Live
-passed_at number begin None = None
-passed_at number begin (Some t) = Some (if t.begin == begin then with_status t (after_pass number t.status) else t)
+-- a step that could not be done left the cluster as it was; a drain left what it had done
+abbrev pub LeftBy : Act → ℕ → ModelCluster → ModelCluster → Type 0
+LeftBy act.Drain node old new = DrainedPartly node old new
+LeftBy act.Order node old new = new ≡ old
+LeftBy act.Take node old new = new ≡ old
+LeftBy act.Certify node old new = new ≡ old
+LeftBy (act.Start number) node old new = new ≡ old
+LeftBy (act.Finish number) node old new = new ≡ old
+LeftBy act.Advance node old new = new ≡ old
+LeftBy (act.Client session call) node old new = new ≡ old
+LeftBy act.Report node old new = new ≡ old
+LeftBy act.Status node old new = new ≡ old
+LeftBy act.Leave node old new = new ≡ old
+LeftBy (act.Join fresh) node old new = new ≡ old
+LeftBy (act.Transfer donor) node old new = new ≡ old
 
--- a write set that passed tells the live transaction; bytes that spell none tell nobody
-abbrev pub told_written : Node → Option WriteSet → Node
-told_written n None = n
-told_written n (Some w) = with_live n (passed_at n.certified w.begin n.live)
+abbrev pub fault_cause : ℕ → ℕ → StepFault → Type 0
+fault_cause before now fault.Group = before < now
+fault_cause before now fault.NoMemory = now ≡ before
 
-abbrev pub told_own : Node → Event → Node
-told_own n (Write member body) = told_written n (decoded body)
-told_own n (View version members) = n
-told_own n (Report member number) = n
-
-abbrev pub certified_event : Node → Option Event → Answer × Node
-certified_event n None = (answer.Nothing, n)
-certified_event n (Some event) =
-    (answer.Judged (n.certified + 1) (judged event), told_own (record n { certified = n.certified + 1 }) event)
-
--- the next event that was taken is certified
-abbrev pub certified : List Event → Node → Answer × Node
-certified order n = if n.certified == n.taken then (answer.Nothing, n) else certified_event n (slice_get order n.certified)
-
-abbrev pub is_at : ℕ → Status → Bool
-is_at number Running = false
-is_at number CommitSent = false
-is_at number (Certified own) = number == own
-
--- whether this is the number of the live transaction
-abbrev pub is_own : ℕ → Option Live → Bool
-is_own number None = false
-is_own number (Some t) = is_at number t.status
-
--- whether the event is a commit that passed
-abbrev pub is_commit : Event → Bool
-is_commit event = is_some (committed_ops event)
-
--- the transaction that committed at this number ends, and its session is told so when it calls next
-abbrev pub ended_at : ℕ → Node → Bool → Node
-ended_at number n false = n
-ended_at number n true = record n { live = None; waiting = Some (reply.Committed number) }
-
-abbrev pub advance_event : ℕ → Node → Option Event → Answer × Node
-advance_event number n None = (answer.Nothing, n)
-advance_event number n (Some event) =
-    if is_commit event && not (is_own number n.live) then (answer.NotReady number, n)
-    else (answer.At number, ended_at number (record n { committed = number }) (is_own number n.live))
-
--- the next number that was certified is committed
-abbrev pub advanced : List Event → Node → Answer × Node
-advanced order n =
-    if n.committed == n.certified then (answer.Nothing, n)
-    else advance_event (n.committed + 1) n (slice_get order n.committed)
+-- the group's count rose where it failed, and is the same elsewhere
+abbrev pub HasGroupCause : {T : Type 0} → ℕ → ℕ → Result T StepFault → Type 0
+HasGroupCause before now result = MatchResult result (λ _. now ≡ before) (fault_cause before now)

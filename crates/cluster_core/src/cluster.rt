@@ -1,204 +1,138 @@
-ghost use Rattle.std.specs.Prelude.{◌≡◌, ◌<◌, ◌^◌, slice_get, IfOk, OnErr, IsTrue};
+ghost use Rattle.std.specs.Prelude.{◌≡◌, ◌≢◌, ◌≤◌, ◌<◌, ◌+◌, length, IfOk, OnErr, IsTrue};
+ghost use Rattle.wsrep_base.specs.StateId.{nil_id};
+ghost use Rattle.order_event.specs.Fits.{step_fits};
+ghost use Rattle.group_order.specs.Order.{start_order};
+ghost use Rattle.node_meaning.specs.Cluster.{start_cluster, cluster_step, will_order};
 
-use crate::events::{committed_ops, event_of};
-use crate::node::{MEMBER, Node};
-use crate::row_table::RowTable;
-use order_event::{Act, Answer, Event, MemberList, Step};
-use row_model::{Call, RowList};
-use std::alloc::{AllocError, Global};
+use crate::fault::StepFault;
+use crate::seat::Seat;
+use crate::steps::step_at;
+use group_order::Group;
+use order_event::{Act, Answer, Step};
+use row_model::RowList;
+use std::alloc::Global;
 use std::marker::Model;
-use wsrep_base::StateId;
+use wsrep_base::{NoMemory, StateId};
 
-/// One node with its one session, and the total order of its events.
+/// What a node shows at the end.
 #[derive(Drop)]
-pub struct Cluster {
-    alloc: Global,
-    id: StateId,
-    order: Vec<Event>,
-    rows: RowTable,
-    node: Node,
-}
-
-impl Model for Cluster {
-    ghost use Rattle.cluster_core.specs.Run.{ModelCluster};
-
-    ghost Value = { ModelCluster };
-
-    ghost use Rattle.cluster_core.specs.Stands.{Stands};
-
-    ghost view = { λ c. record { id = c.id; order = c.order.items; node = c.node } };
-
-    ghost invariant = { λ c. Stands c.order.items c.rows.rows c.node };
-}
-
-/// Where a node stands at the end: the number up to which it has committed, and its committed rows
-/// in the order of their tables and names.
-#[derive(Debug, Drop, PartialEq)]
 pub struct NodeEnd {
+    /// How far it has committed.
     pub at: u64,
+    /// Its committed rows, by table and then by row.
     pub rows: RowList,
 }
 
-impl Cluster {
-    ghost use Rattle.row_model.specs.Names.{call_fits};
-    ghost use Rattle.order_event.specs.Fits.{step_fits};
-    ghost use Rattle.cluster_core.specs.Run.{start_cluster, cluster_step, done_by, with_reply, with_node, with_order, rows_at, end_at, end_rows, order_len};
-    ghost use Rattle.cluster_core.specs.Moves.{Counts};
-    ghost use Rattle.cluster_core.specs.Client.{client};
-    ghost use Rattle.cluster_core.specs.Steps.{ordered, taken, certified, advanced};
+/// Nodes over one group. They are numbered from 1.
+#[derive(Drop)]
+pub struct Cluster<G: Group> {
+    group: G,
+    seats: Vec<Seat>,
+}
 
-    /// The cluster at its start: the order has the view of member 1, and nothing is taken.
-    #[tactic(auto, unfolding(crate::specs::Run::start_cluster))]
-    pub fn new(alloc: Global, id: StateId) -> Result<Cluster, AllocError>
-        ensures { IfOk result (λ c. c ≡ start_cluster id) }
+impl<G: Group> Model for Cluster<G> {
+    ghost use Rattle.cluster_core.specs.State.{ClusterState};
+    ghost use Rattle.cluster_core.specs.Acts.{AreKept, nodes_of};
+
+    ghost Value = { ClusterState };
+
+    ghost view = { λ c. record { model = record { order = G.order c.group; nodes = nodes_of c.seats.items }; faults = G.faults c.group } };
+
+    ghost invariant = { λ c. AreKept (G.order c.group) c.seats.items };
+}
+
+impl<G: Group> Cluster<G> {
+    ghost use Rattle.cluster_core.specs.State.{AllCanGoOn, end_at, end_rows};
+    ghost use Rattle.cluster_core.specs.Steps.{has_session, LeftBy, HasGroupCause};
+
+    /// So many nodes at their start, over a group at its start. The size of the ring of events, in
+    /// bytes, is not used yet.
+    pub fn new(
+        alloc: Global,
+        group: G,
+        id: &StateId,
+        nodes: u8,
+        gcache: u64,
+    ) -> Result<Cluster<G>, NoMemory>
+        requires some { 1 ≤ nodes }
+        requires few { nodes ≤ 9 }
+        requires id { id.now ≢ nil_id }
+        requires ring { gcache ≤ 16_777_216 }
+        requires order { G.order group ≡ start_order nodes }
+        ensures start { IfOk result (λ c. c.model ≡ start_cluster nodes id.now) }
+        ensures faults { IfOk result (λ c. c.faults ≡ G.faults group) }
     {
-        let mut members = MemberList::new(alloc);
-        members.push(MEMBER)?;
-        let mut order = Vec::new(alloc);
-        order.push(Event::View {
-            version: 1,
-            members,
-        })?;
-        Ok(Cluster {
-            alloc,
-            id,
-            order,
-            rows: RowTable::new(alloc),
-            node: Node::new(alloc),
-        })
+        let seats = seats_of(alloc, id, nodes, gcache)?;
+        Ok(Cluster { group, seats })
     }
 
-    /// The length of the order.
-    pub fn events(&self) -> u64
-        ensures { result ≡ order_len self.now }
-    {
-        self.order.len() as u64
-    }
-
-    /// Does the next step and answers it. After `AllocError` nothing is changed.
-    #[tactic(auto, unfolding(crate::specs::Run::cluster_step))]
-    pub fn step(&mut self, step: &Step) -> Result<Answer, AllocError>
-        requires serial { self.old.node.serial < 2 ^ 63 }
-        requires begin { self.old.node.begin < 2 ^ 63 }
+    /// What a step of a node is answered.
+    pub fn step(&mut self, step: &Step) -> Result<Answer, StepFault>
+        requires node { (1 ≤ step.now.node) × (step.now.node ≤ length self.old.model.nodes) }
+        requires session { has_session step.now.act }
         requires names { IsTrue (step_fits step.now) }
-        ensures ok { IfOk result (λ answer. (answer, self.new) ≡ cluster_step self.old step.now) }
-        ensures counts { Counts self.old.node self.new.node }
-        ensures err { OnErr result (self.new ≡ self.old) }
+        requires events { length self.old.model.order + will_order self.old.model step.now ≤ 500_000 }
+        requires counts { AllCanGoOn self.old.model }
+        ensures ok { IfOk result (λ answer. (answer, self.new.model) ≡ cluster_step self.old.model step.now) }
+        ensures err { OnErr result (LeftBy step.now.act step.now.node self.old.model self.new.model) }
+        ensures cause { HasGroupCause self.old.faults self.new.faults result }
     {
+        let at = usize::from(step.node) - 1;
+        step_at(&mut self.seats, at, &mut self.group, &step.act)
+    }
+
+    /// How many events were ordered.
+    pub fn events(&self) -> u64
+        ensures { result ≡ length self.now.model.order }
+    {
+        self.group.len()
+    }
+
+    /// How many events the step is going to order.
+    pub fn will_order(&self, step: &Step) -> u64
+        requires { (1 ≤ step.now.node) × (step.now.node ≤ length self.now.model.nodes) }
+        ensures { result ≡ will_order self.now.model step.now }
+    {
+        let outbox = self.seats[usize::from(step.node) - 1].node.place().outbox;
         match step.act {
-            Act::Client(_, call) => self.client(&call),
-            Act::Order => self.order(),
-            Act::Take => Ok(self.take()),
-            Act::Certify => self.certify(),
-            Act::Advance => self.advance(),
-            Act::Start(_)
-            | Act::Finish(_)
-            | Act::Report
-            | Act::Status
-            | Act::Drain
-            | Act::Leave
-            | Act::Join(_)
-            | Act::Transfer(_) => Ok(Answer::Nothing),
+            Act::Order => outbox.min(1),
+            Act::Drain => outbox,
+            _ => 0,
         }
     }
 
-    /// Where the node stands now.
-    pub fn end(&self) -> Result<NodeEnd, AllocError>
-        ensures at { IfOk result (λ end. end.at ≡ end_at self.now) }
-        ensures rows { IfOk result (λ end. end.rows ≡ end_rows self.now) }
+    /// What a node shows at the end.
+    pub fn end(&self, node: u8) -> Result<NodeEnd, NoMemory>
+        requires { (1 ≤ node) × (node ≤ length self.now.model.nodes) }
+        ensures at { IfOk result (λ end. end.at ≡ end_at self.now.model node) }
+        ensures rows { IfOk result (λ end. end.rows ≡ end_rows self.now.model node) }
     {
+        let node = &self.seats[usize::from(node) - 1].node;
         Ok(NodeEnd {
-            at: self.node.committed,
-            rows: self.rows.walk(self.alloc)?,
+            at: node.committed(),
+            rows: node.rows()?,
         })
     }
+}
 
-    fn client(&mut self, call: &Call) -> Result<Answer, AllocError>
-        requires serial { self.old.node.serial < 2 ^ 63 }
-        requires begin { self.old.node.begin < 2 ^ 63 }
-        requires names { IsTrue (call_fits call.now) }
-        ensures ok { IfOk result (λ answer. (answer, self.new)
-            ≡ with_reply self.old (client (rows_at self.old.order self.old.node.committed) self.old.node call.now)) }
-        ensures counts { Counts self.old.node self.new.node }
-        ensures err { OnErr result (self.new ≡ self.old) }
-    {
-        let reply = self.node.client(self.alloc, &self.rows, call)?;
-        Ok(Answer::Client(reply))
-    }
+ghost use Rattle.order_event.specs.declared.event.Event.{Event as Ordered};
+ghost use Rattle.std.specs.Prelude.{List, map};
+ghost use Rattle.std.specs.List.{AllByRecursion};
+ghost use Rattle.group_order.specs.Order.{up_to};
+ghost use Rattle.node_meaning.specs.Node.{start_node};
+ghost use Rattle.cluster_core.specs.Seated.{IsSeated};
+ghost use Rattle.cluster_core.specs.Acts.{nodes_of};
 
-    // The oldest message that waits takes the next number.
-    fn order(&mut self) -> Result<Answer, AllocError>
-        ensures ok { IfOk result (λ answer. (answer, self.new)
-            ≡ with_order self.old (ordered self.old.order self.old.node self.old.node.outbox)) }
-        ensures counts { Counts self.old.node self.new.node }
-        ensures err { OnErr result (self.new ≡ self.old) }
-    {
-        if self.node.outbox.is_empty() {
-            return Ok(Answer::Nothing);
-        }
-        self.order.reserve(1)?;
-        let sent = self.node.outbox.take_first();
-        match self.order.push(event_of(sent)) {
-            Ok(()) => {}
-            Err(_) => unreachable!(),
-        }
-        Ok(Answer::Ordered(self.order.len() as u64))
+// The seats of so many nodes at their start.
+fn seats_of(alloc: Global, id: &StateId, nodes: u8, gcache: u64) -> Result<Vec<Seat>, NoMemory>
+    requires id { id.now ≢ nil_id }
+    requires ring { gcache ≤ 16_777_216 }
+    ensures nodes { IfOk result (λ seats. nodes_of seats.items ≡ map (start_node id.now) (up_to nodes)) }
+    ensures seated { IfOk result (λ seats. (order : List Ordered) → AllByRecursion (IsSeated order) seats.items) }
+{
+    let mut seats = Vec::new(alloc);
+    for before in 0..nodes {
+        seats.push(Seat::new(alloc, id, u32::from(before) + 1, gcache)?)?;
     }
-
-    // The next event of the order is taken.
-    fn take(&mut self) -> Answer
-        ensures ok { (result, self.new)
-            ≡ with_node self.old (taken self.old.node (slice_get self.old.order self.old.node.taken)) }
-        ensures counts { Counts self.old.node self.new.node }
-    {
-        if self.node.taken >= self.order.len() as u64 {
-            return Answer::Nothing;
-        }
-        self.node.taken += 1;
-        Answer::Took(self.node.taken)
-    }
-
-    // The next event that was taken is certified.
-    fn certify(&mut self) -> Result<Answer, AllocError>
-        ensures ok { IfOk result (λ answer. (answer, self.new)
-            ≡ with_node self.old (certified self.old.order self.old.node)) }
-        ensures counts { Counts self.old.node self.new.node }
-        ensures err { OnErr result (self.new ≡ self.old) }
-    {
-        if self.node.certified == self.node.taken {
-            return Ok(Answer::Nothing);
-        }
-        let at = self.node.certified as usize;
-        let judged = self.node.certify(self.alloc, &self.order[at])?;
-        Ok(Answer::Judged(self.node.certified, judged))
-    }
-
-    // The next number that was certified is committed.
-    fn advance(&mut self) -> Result<Answer, AllocError>
-        ensures ok { IfOk result (λ answer. (answer, self.new)
-            ≡ with_node self.old (advanced self.old.order self.old.node)) }
-        ensures counts { Counts self.old.node self.new.node }
-        ensures err { OnErr result (self.new ≡ self.old) }
-    {
-        if self.node.committed == self.node.certified {
-            return Ok(Answer::Nothing);
-        }
-        let at = self.node.committed as usize;
-        let number = self.node.committed + 1;
-        match committed_ops(self.alloc, &self.order[at])? {
-            None => {
-                self.node.commit_at(number);
-                Ok(Answer::At(number))
-            }
-            Some(ops) => {
-                if !self.node.is_own(number) {
-                    return Ok(Answer::NotReady(number));
-                }
-                self.rows.reserve(ops.len())?;
-                self.rows.apply_all(ops.as_slice());
-                self.node.commit_at(number);
-                Ok(Answer::At(number))
-            }
-        }
-    }
+    Ok(seats)
 }

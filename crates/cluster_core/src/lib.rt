@@ -1,15 +1,11 @@
-//! A cluster, step by step. At this stage it is one node with one session, and keeps the order itself.
+//! A cluster: several nodes over one group, and what each step of a node is answered.
 #![tactic(auto)]
 
 mod cluster;
-mod events;
-mod keys;
-mod node;
-mod row_table;
-mod trx;
+mod drain;
+mod fault;
+mod seat;
+mod steps;
 
 pub use cluster::{Cluster, NodeEnd};
-pub use trx::Status;
-
-#[cfg(test)]
-mod tests;
+pub use fault::StepFault;

@@ -1,17 +1,16 @@
 -- how a run ends behind what was printed before
 use Rattle.std.proofs.Common.{◌≡◌, ℕ, List, [], ◌∷◌, ◌++◌, length, ◌<◌, refl, sym, ap, ◌∙◌, append_assoc, subst, arith}
-use Rattle.std.specs.Prelude.{Option, Some, None, Result, Ok, Err, IfOk, IfErr, IsTrue, true, false}
+use Rattle.std.specs.Prelude.{Option, Result, Ok, Err, IfOk, IfErr, IsTrue, true, false}
 use Rattle.std.specs.Io.KnownBytes.{Appends, Keeps}
 use Rattle.script_text.specs.declared.line.ScriptCause.{ScriptCause}
 use Rattle.galera_run.specs.declared.fault.Finished.{Finished}
 use Rattle.galera_run.specs.declared.fault.RunFault.{RunFault}
 use Rattle.galera_run.specs.declared.fault.RunFault.TheVariants as stop
 use Rattle.galera_run.specs.declared.place.Place.{Place}
-use Rattle.galera_run.specs.declared.script.Script.{Script}
 use Rattle.galera_run.specs.Lines.{last_line}
 use Rattle.galera_run.specs.Reading.{Told, Run, told_at, told_from, front, follows, line_at, answer_line, run_told, ending_of, end_text}
 use Rattle.galera_run.specs.Writing.{AppendsFront}
-use Rattle.galera_run.specs.Feeding.{told_by, Runs, RunsCut, LineStops}
+use Rattle.galera_run.specs.Feeding.{Runs, RunsCut, LineStops}
 use Rattle.galera_run.specs.Outcome.{TellsAll, TellsRefusal, EndStops}
 use Rattle.galera_run.proofs.Writes.{appends_both, front_of_nothing, keeps_appends}
 use Rattle.galera_run.proofs.Readings.{front_later, front_of_more}

@@ -1,7 +1,7 @@
 -- how the reading of pieces adds up, and what one byte does
-use Rattle.std.proofs.Common.{◌≡◌, ◌<◌, ◌≤◌, ℕ, ◌+◌, ◌-◌, List, [], ◌∷◌, ◌++◌, length, take, drop, get_or, refl, sym, ap, subst, add-one, drop-cons, ◌∙◌, append_assoc, arith, Bool, true, false, if◌then◌else◌, ◌==◌, nat_le}
-use Rattle.std.specs.Prelude.{Option, Some, None, Result, Ok, Err}
-use Rattle.std.specs.Io.KnownBytes.{Appends, Keeps, Consumes}
+use Rattle.std.proofs.Common.{◌≡◌, ◌<◌, ◌≤◌, ℕ, ◌+◌, List, [], ◌∷◌, ◌++◌, length, take, drop, get_or, refl, sym, ap, subst, add-one, drop-cons, ◌∙◌, append_assoc, arith, Bool, true, false, if◌then◌else◌, ◌==◌}
+use Rattle.std.specs.Prelude.{Option, Ok, Err}
+use Rattle.std.specs.Io.KnownBytes.{Appends, Keeps}
 use Rattle.std.proofs.lemmas.Bool.{lt-leb}
 use Rattle.std.proofs.lemmas.List.{append-nil, length-append, take-append-drop, take_more}
 use Rattle.order_event.specs.declared.step.Answer.{Answer}
@@ -12,8 +12,8 @@ use Rattle.galera_run.specs.declared.script.Script.{Script}
 use Rattle.galera_run.specs.declared.fault.RunFault.{RunFault}
 use Rattle.galera_run.specs.declared.fault.RunFault.TheVariants as stop
 use Rattle.galera_run.specs.Lines.{lines_to, last_line}
-use Rattle.galera_run.specs.Reading.{Told, place, fault, front, follows, told_from, line_at, answer_line, most_bytes}
-use Rattle.galera_run.specs.Writing.{AppendsFront, IsFrontOf}
+use Rattle.galera_run.specs.Reading.{Told, front, follows, told_from, line_at, answer_line, most_bytes}
+use Rattle.galera_run.specs.Writing.{AppendsFront}
 use Rattle.galera_run.specs.Feeding.{told_by, GoesOn, IsRefused, Feeds, Refuses, CutsShort, Runs, RunsCut, LineStops, Stops}
 use Rattle.galera_run.proofs.Writes.{appends_nothing, appends_both, keeps_appends, front_of_nothing}
 

@@ -1,7 +1,7 @@
 -- how reading from a source adds up, and what a whole run is
-use Rattle.std.proofs.Common.{◌≡◌, ℕ, List, [], ◌∷◌, ◌++◌, refl, sym, ap, ◌∙◌, append_assoc, subst}
+use Rattle.std.proofs.Common.{◌≡◌, ℕ, List, [], ◌++◌, refl, sym, ap, ◌∙◌, append_assoc, subst}
 use Rattle.std.specs.Prelude.{Option, Some, None}
-use Rattle.std.specs.Io.KnownBytes.{Appends, Keeps, Consumes, IsAtEnd}
+use Rattle.std.specs.Io.KnownBytes.{Keeps, Consumes, IsAtEnd}
 use Rattle.std.proofs.lemmas.List.{append-nil}
 use Rattle.script_text.specs.declared.line.ScriptCause.{ScriptCause}
 use Rattle.galera_run.specs.declared.fault.Finished.{Finished}
@@ -9,9 +9,9 @@ use Rattle.galera_run.specs.declared.fault.RunFault.{RunFault}
 use Rattle.galera_run.specs.declared.fault.RunFault.TheVariants as stop
 use Rattle.galera_run.specs.declared.script.Script.{Script}
 use Rattle.galera_run.specs.Lines.{last_line, no_line}
-use Rattle.galera_run.specs.Reading.{Told, Run, start, told_from, run_told, run_of, text_so_far, ending_of, end_text, fault, refused}
+use Rattle.galera_run.specs.Reading.{Told, Run, start, run_told, run_of, text_so_far, fault}
 use Rattle.galera_run.specs.Writing.{AppendsFront}
-use Rattle.galera_run.specs.Feeding.{told_by, Feeds, Refuses, CutsShort, Stops, Reads, ReadsRefused, ReadsCut, ReadStops}
+use Rattle.galera_run.specs.Feeding.{told_by, Stops, Reads, ReadsRefused, ReadsCut, ReadStops}
 use Rattle.galera_run.specs.Outcome.{TellsAll, TellsRefusal, TellsRead, EndStops, RunTells, RunStops}
 use Rattle.galera_run.proofs.Readings.{feeds_nothing, feeds_both, feeds_refuses, feeds_cuts, front_of_more}
 use Rattle.galera_run.proofs.Endings.{run_behind, run_front, tells_behind, stops_behind}

@@ -1,7 +1,6 @@
 -- what went out where the last line could not be written
-use Rattle.std.proofs.Common.{◌≡◌, ◌⊎◌, inl, inr, ℕ, List, ◌++◌, sym, ap, subst}
+use Rattle.std.proofs.Common.{ℕ, List, ◌++◌, sym, subst}
 use Rattle.std.specs.Prelude.{Option, Some, None, IfSome}
-use Rattle.outside_io.specs.Outside.{Rose}
 use Rattle.script_text.specs.declared.line.ScriptCause.{ScriptCause}
 use Rattle.galera_run.specs.Reading.{run_of, text_so_far, Ending}
 use Rattle.galera_run.specs.Writing.{AppendsFront}

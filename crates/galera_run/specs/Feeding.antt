@@ -1,9 +1,14 @@
 -- reading in pieces: what a piece printed, whatever follows it
-use Rattle.std.specs.Prelude.{◌≡◌, ◌≤◌, ◌<◌, ℕ, ◌+◌, List, [], ◌++◌, length, Option, Some, None, Result, Ok, Err, MatchResult}
+use Rattle.std.specs.Prelude.{◌≡◌, ◌≢◌, ◌≤◌, ◌<◌, ℕ, ◌+◌, List, ◌++◌, length, slice_get, Option, Some, None, Result, Ok, Err, MatchResult}
 use Rattle.std.specs.Io.KnownBytes.{Appends, Keeps, Consumes}
 use Rattle.outside_io.specs.Outside.{Rose}
+use Rattle.wsrep_base.specs.StateId.{nil_id}
 use Rattle.order_event.specs.declared.step.Answer.{Answer}
+use Rattle.node_meaning.specs.Node.{ModelNode}
+use Rattle.node_meaning.specs.Cluster.{start_cluster}
 use Rattle.script_text.specs.declared.line.ScriptCause.{ScriptCause}
+use Rattle.script_text.specs.declared.line.Header.{Header}
+use Rattle.script_text.specs.Steps.{IsHeader}
 use Rattle.galera_run.specs.declared.place.Opened.{Opened}
 use Rattle.galera_run.specs.declared.place.Place.{Place}
 use Rattle.galera_run.specs.declared.script.Script.{Script}
@@ -12,21 +17,31 @@ use Rattle.galera_run.specs.declared.fault.RunFault.TheVariants as stop
 use Rattle.galera_run.specs.declared.line.LineFault.{LineFault}
 use Rattle.galera_run.specs.declared.line.LineFault.TheVariants as fails
 use Rattle.galera_run.specs.Lines.{lines_to, last_line}
-use Rattle.galera_run.specs.Reading.{Told, place, fault, front, told_from, line_at, answer_line, most_bytes, most_steps}
+use Rattle.galera_run.specs.Reading.{Told, opened, fault, front, told_from, line_at, answer_line, most_bytes, most_steps, most_events}
 use Rattle.galera_run.specs.Writing.{AppendsFront}
 
--- each step takes at most one serial and one begin number
-abbrev pub IsCounted : ℕ → Option Opened → Type 0
-IsCounted steps None = Unit {0}
-IsCounted steps (Some opened) =
-    (opened.cluster.node.serial ≤ steps + 1) × (opened.cluster.node.begin ≤ steps + 1)
+-- a node gave out at most one serial and one begin number for each step
+pub record HasGiven (steps : ℕ) (n : ModelNode) : Type 0 where
+  pub serial : n.at.serial ≤ steps + 1
+  pub begin : n.at.begin ≤ steps + 1
+
+-- a cluster of so many nodes, with its counts within their limits, over a group that never failed
+pub record IsCounted (steps : ℕ) (o : Opened) : Type 0 where
+  pub nodes : length o.cluster.model.nodes ≡ o.nodes
+  pub events : length o.cluster.model.order ≤ most_events
+  pub faults : o.cluster.faults ≡ 0
+  pub given : (i : ℕ) (n : ModelNode) → slice_get o.cluster.model.nodes i ≡ Some n → HasGiven steps n
+
+abbrev pub IsCountedIn : ℕ → Option Opened → Type 0
+IsCountedIn steps None = Unit {0}
+IsCountedIn steps (Some o) = IsCounted steps o
 
 -- the counts of a place are within their limits
 pub record Stands (p : Place) : Type 0 where
   pub numbered : p.number ≤ p.before + 1
   pub within : p.before ≤ most_bytes
   pub few : p.steps ≤ most_steps
-  pub counted : IsCounted p.steps p.state
+  pub counted : IsCountedIn p.steps p.state
 
 -- so is the line that has begun
 pub record IsSound (s : Script) : Type 0 where
@@ -105,7 +120,16 @@ pub record IsRoomFor (p : Place) (line : List ℕ) (state : Option Opened) : Typ
   pub room : p.before + length line ≤ most_bytes
   pub some : 0 < length line
   pub few : p.steps ≤ most_steps
-  pub counted : IsCounted p.steps state
+  pub counted : IsCountedIn p.steps state
+
+-- a header within its limits, whose id is not nil
+pub record IsHeaderOf (header : Header) : Type 0 where
+  pub limits : IsHeader header
+  pub some_id : header.id ≢ nil_id
+
+-- the cluster that a header begins
+abbrev pub IsOpenedBy : Header → Opened → Type 0
+IsOpenedBy header o = o ≡ opened header.nodes (start_cluster header.nodes header.id)
 
 -- how a line fails: refused by its cause, or without memory, which is free
 abbrev pub FailsAs : Result (Option Answer × Place) ScriptCause → LineFault → Type 0

@@ -1,5 +1,5 @@
 -- the lines of an input
-use Rattle.std.specs.Prelude.{ℕ, ◌-◌, ◌==◌, List, [], ◌∷◌, ◌++◌, length, take, slice_index, if◌then◌else◌}
+use Rattle.std.specs.Prelude.{ℕ, ◌==◌, List, [], ◌∷◌, ◌++◌, if◌then◌else◌}
 
 -- the lines of the bytes behind a begun line, each with the newline that ends it; `last` is what becomes of a line that no newline ends
 abbrev pub lines_to : (List ℕ → List (List ℕ)) → List ℕ → List ℕ → List (List ℕ)
@@ -23,7 +23,3 @@ lines_of bytes = lines_to last_line [] bytes
 -- the lines whose newline is among the bytes
 abbrev pub whole_lines : List ℕ → List (List ℕ)
 whole_lines bytes = lines_to no_line [] bytes
-
--- a line without the newline that ends it
-abbrev pub without_newline : List ℕ → List ℕ
-without_newline line = if slice_index line (length line - 1) == 10 then take (length line - 1) line else line

@@ -1,10 +1,8 @@
 -- what the top calls promise of a run over a source and a sink
-use Rattle.std.specs.Prelude.{◌≡◌, ℕ, List, [], ◌∷◌, ◌++◌, codes, decimal, map, string_bytes, Option, IfSome}
-use Rattle.std.specs.declared.string.String.{String}
+use Rattle.std.specs.Prelude.{◌≡◌, ℕ, List, length, Option, IfSome}
 use Rattle.std.specs.Io.KnownBytes.{Appends, Consumes}
 use Rattle.script_text.specs.declared.line.ScriptCause.{ScriptCause}
-use Rattle.script_text.specs.declared.line.ScriptCause.TheVariants as cause
-use Rattle.cluster_core.specs.Run.{ModelCluster, order_len}
+use Rattle.node_meaning.specs.Cluster.{ModelCluster}
 use Rattle.galera_run.specs.declared.fault.RunFault.{RunFault}
 use Rattle.galera_run.specs.declared.fault.RunFault.TheVariants as stop
 use Rattle.galera_run.specs.declared.fault.Finished.{Finished}
@@ -15,7 +13,7 @@ use Rattle.galera_run.specs.Writing.{AppendsFront}
 pub record IsFinished (run : Run) (done : Finished) : Type 0 where
   pub cluster : ModelCluster
   pub ending : run.ending ≡ finished done.steps cluster
-  pub events : done.events ≡ order_len cluster
+  pub events : done.events ≡ length cluster.order
 
 -- it does, and its whole text was written
 pub record TellsAll (run : Run) (old new : Option (List ℕ)) (done : Finished) : Type 0 where

@@ -6,7 +6,7 @@ use Rattle.script_text.specs.declared.line.ScriptCause.{ScriptCause}
 use Rattle.script_text.specs.declared.line.ScriptCause.TheVariants as cause
 use Rattle.report_text.specs.Texts.{spaced}
 use Rattle.galera_run.specs.declared.fault.Finished.{Finished}
-use Rattle.galera_run.specs.Reading.{Run, Ending, finished, refused, run_of, text_so_far}
+use Rattle.galera_run.specs.Reading.{Ending, finished, refused, run_of, text_so_far}
 use Rattle.galera_run.specs.Writing.{AppendsFront}
 use Rattle.galera_run.specs.Outcome.{TellsAll}
 

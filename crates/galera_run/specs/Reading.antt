@@ -1,5 +1,5 @@
 -- a run over the lines of an input: what it prints, and how it ends
-use Rattle.std.specs.Prelude.{ℕ, ◌+◌, ◌==◌, nat_le, nat_lt, List, [], ◌∷◌, ◌++◌, length, codes, decimal, Option, Some, None, Result, Ok, Err, if◌then◌else◌}
+use Rattle.std.specs.Prelude.{ℕ, ◌+◌, ◌&&◌, Bool, nat_le, nat_lt, List, [], ◌∷◌, ◌++◌, length, flat_map, Option, Some, None, Result, Ok, Err, if◌then◌else◌}
 use Rattle.order_event.specs.declared.step.Answer.{Answer}
 use Rattle.order_event.specs.declared.step.Step.{Step}
 use Rattle.script_text.specs.declared.line.Header.{Header}
@@ -7,51 +7,65 @@ use Rattle.script_text.specs.declared.line.Line.{Line}
 use Rattle.script_text.specs.declared.line.Line.TheVariants as said
 use Rattle.script_text.specs.declared.line.ScriptCause.{ScriptCause}
 use Rattle.script_text.specs.declared.line.ScriptCause.TheVariants as cause
-use Rattle.script_text.specs.Grammar.{line_of, header_of}
+use Rattle.script_text.specs.Grammar.{first_of, line_of}
 use Rattle.report_text.specs.Texts.{line_text, node_text}
-use Rattle.cluster_core.specs.Run.{ModelCluster, start_cluster, cluster_step, end_at, end_rows}
+use Rattle.group_order.specs.Order.{up_to}
+use Rattle.node_meaning.specs.Cluster.{ModelCluster, start_cluster, cluster_step, will_order}
+use Rattle.cluster_core.specs.State.{end_at, end_rows}
 use Rattle.galera_run.specs.declared.place.Opened.{Opened}
 use Rattle.galera_run.specs.declared.place.Place.{Place}
-use Rattle.galera_run.specs.Lines.{lines_of, whole_lines, without_newline}
+use Rattle.galera_run.specs.Lines.{lines_of, whole_lines}
 
--- the most bytes of an input, and the most step lines
+-- the most bytes of an input, the most step lines, and the most events
 abbrev pub most_bytes : ℕ
 most_bytes = 33_554_432
 
 abbrev pub most_steps : ℕ
-most_steps = 4_000
+most_steps = 200_000
+
+abbrev pub most_events : ℕ
+most_events = 100_000
 
 -- before the first line
 abbrev pub start : Place
 start = record { number = 1; before = 0; steps = 0; state = None }
 
 -- behind a line, with so many steps run and the cluster as it is then
-abbrev pub behind : Place → List ℕ → ℕ → Opened → Place
-behind p line steps opened =
-    record { number = p.number + 1; before = p.before + length line; steps = steps; state = Some opened }
+abbrev pub behind : Place → List ℕ → ℕ → Option Opened → Place
+behind p line steps state =
+    record { number = p.number + 1; before = p.before + length line; steps = steps; state = state }
 
--- the first line is the header; it begins the cluster
-abbrev pub opened_at : Place → List ℕ → Result Header ScriptCause → Result (Option Answer × Place) ScriptCause
+-- so many nodes over a group that never failed
+abbrev pub opened : ℕ → ModelCluster → Opened
+opened nodes model = record { nodes = nodes; cluster = record { model = model; faults = 0 } }
+
+-- up to the header, a line is passed over, or is the header, which begins the cluster
+abbrev pub opened_at : Place → List ℕ → Result (Option Header) ScriptCause → Result (Option Answer × Place) ScriptCause
 opened_at p line (Err c) = Err c
-opened_at p line (Ok header) =
-    Ok (None, behind p line p.steps (record { nodes = header.nodes; cluster = start_cluster header.id }))
+opened_at p line (Ok None) = Ok (None, behind p line p.steps None)
+opened_at p line (Ok (Some header)) =
+    Ok (None, behind p line p.steps (Some (opened header.nodes (start_cluster header.nodes header.id))))
 
 -- a step is answered, and the cluster stands as it left it
-abbrev pub answered_at : Place → List ℕ → Opened → Answer × ModelCluster → Option Answer × Place
-answered_at p line opened (answer, cluster) =
-    (Some answer, behind p line (p.steps + 1) (record opened { cluster = cluster }))
+abbrev pub answered_at : Place → List ℕ → ℕ → Answer × ModelCluster → Option Answer × Place
+answered_at p line nodes (answer, model) = (Some answer, behind p line (p.steps + 1) (Some (opened nodes model)))
 
--- a line behind the header; a step line too many is refused
+-- one step line more is allowed, and so are the events that the step is going to order
+abbrev pub is_within : ℕ → ModelCluster → Step → Bool
+is_within steps model step =
+    nat_lt steps most_steps && nat_le (length model.order + will_order model step) most_events
+
+-- a line behind the header; a step that would pass a limit is refused, and nothing of it is done
 abbrev pub stepped_at : Place → List ℕ → Opened → Result Line ScriptCause → Result (Option Answer × Place) ScriptCause
-stepped_at p line opened (Err c) = Err c
-stepped_at p line opened (Ok said.Blank) = Ok (None, behind p line p.steps opened)
-stepped_at p line opened (Ok (said.Step step)) =
-    if nat_lt p.steps most_steps then Ok (answered_at p line opened (cluster_step opened.cluster step))
+stepped_at p line o (Err c) = Err c
+stepped_at p line o (Ok said.Blank) = Ok (None, behind p line p.steps (Some o))
+stepped_at p line o (Ok (said.Step step)) =
+    if is_within p.steps o.cluster.model step then Ok (answered_at p line o.nodes (cluster_step o.cluster.model step))
     else Err cause.Limit
 
 abbrev pub read_at : Place → List ℕ → Option Opened → Result (Option Answer × Place) ScriptCause
-read_at p line None = opened_at p line (header_of (without_newline line))
-read_at p line (Some opened) = stepped_at p line opened (line_of opened.nodes (without_newline line))
+read_at p line None = opened_at p line (first_of line)
+read_at p line (Some o) = stepped_at p line o (line_of o.nodes line)
 
 -- what a line at a place is answered, if it is a step, and where the run stands behind it; a line that passes the last byte allowed is refused, whatever it says
 abbrev pub line_at : Place → List ℕ → Result (Option Answer × Place) ScriptCause
@@ -97,15 +111,23 @@ pub data Ending : Type 0 where
 -- an input without a header is refused behind its last line
 abbrev pub end_of : Place → Option Opened → Ending
 end_of p None = refused p.number cause.Grammar
-end_of p (Some opened) = finished p.steps opened.cluster
+end_of p (Some o) = finished p.steps o.cluster.model
 
 abbrev pub ending_of : Reached → Ending
 ending_of (place p) = end_of p p.state
 ending_of (fault number c) = refused number c
 
--- behind the answers the node's place and rows are printed, where all was read
+-- what a node shows at the end: its place and its rows
+abbrev pub node_end : ModelCluster → ℕ → List ℕ
+node_end model node = node_text node (end_at model node) (end_rows model node)
+
+-- what the first nodes show, in their order
+abbrev pub nodes_end : ModelCluster → ℕ → List ℕ
+nodes_end model nodes = flat_map (node_end model) (up_to nodes)
+
+-- behind the answers each node's place and rows are printed, where all was read
 abbrev pub end_text : Ending → List ℕ
-end_text (finished steps cluster) = node_text 1 (end_at cluster) (end_rows cluster)
+end_text (finished steps model) = nodes_end model (length model.nodes)
 end_text (refused number c) = []
 
 -- what the run over an input prints, and how it ends
@@ -118,7 +140,7 @@ run_told told = record { text = told.text ++ end_text (ending_of told.reached); 
 
 -- a run that ends with this cluster
 abbrev pub run_ended : ℕ → ModelCluster → Run
-run_ended steps cluster = record { text = end_text (finished steps cluster); ending = finished steps cluster }
+run_ended steps model = record { text = end_text (finished steps model); ending = finished steps model }
 
 unfoldable pub run_of : List ℕ → Run
 run_of bytes = run_told (told_from start (lines_of bytes))

@@ -1,16 +1,13 @@
-ghost use Rattle.std.specs.Prelude.{◌≡◌, [], IfOk, IfErr};
-ghost use Rattle.report_text.specs.Texts.{node_text};
-ghost use Rattle.cluster_core.specs.Run.{end_at, end_rows};
+ghost use Rattle.std.specs.Prelude.{◌≡◌, [], length, IfOk, IfErr};
 ghost use Rattle.galera_run.specs.Lines.{last_line};
-ghost use Rattle.galera_run.specs.Reading.{run_told, told_at, run_ended};
-ghost use Rattle.galera_run.specs.Feeding.{IsSound, HasWriteCause, told_by};
+ghost use Rattle.galera_run.specs.Reading.{nodes_end, run_told, told_at, run_ended};
+ghost use Rattle.galera_run.specs.Feeding.{Stands, IsSound, IsCounted, HasWriteCause, told_by};
 ghost use Rattle.galera_run.specs.Outcome.{TellsAll, EndStops};
 
 use crate::fault::{Finished, RunFault};
-use crate::place::Place;
+use crate::place::{Opened, Place};
 use crate::print::print_lines;
 use crate::script::{Script, run_pending};
-use cluster_core::Cluster;
 use outside_io::Sink;
 use report_text::put_node;
 use script_text::ScriptCause;
@@ -39,12 +36,13 @@ pub(crate) fn finish<K: Sink>(
 
 // Ends the run behind the last line.
 fn end_at_place<K: Sink>(alloc: Global, place: &Place, out: &mut K) -> Result<Finished, RunFault>
+    requires { Stands place.now }
     ensures ok { IfOk result (TellsAll (run_told (told_at place.now)) (K.written out.old) (K.written out.new)) }
     ensures err { IfErr result (EndStops (run_told (told_at place.now)) (K.written out.old) (K.written out.new)) }
     ensures cause { HasWriteCause (K.faults out.old) (K.faults out.new) result }
 {
     match &place.state {
-        Some(opened) => print_end(alloc, place.steps, &opened.cluster, out),
+        Some(opened) => print_end(alloc, place.steps, opened, out),
         None => Err(RunFault::Script {
             line: place.number,
             cause: ScriptCause::Grammar,
@@ -52,22 +50,23 @@ fn end_at_place<K: Sink>(alloc: Global, place: &Place, out: &mut K) -> Result<Fi
     }
 }
 
-// Prints the node's place and rows.
+// Prints each node's place and rows.
 fn print_end<K: Sink>(
     alloc: Global,
     steps: u64,
-    cluster: &Cluster,
+    opened: &Opened,
     out: &mut K,
 ) -> Result<Finished, RunFault>
-    ensures ok { IfOk result (TellsAll (run_ended steps cluster.now) (K.written out.old) (K.written out.new)) }
-    ensures err { IfErr result (EndStops (run_ended steps cluster.now) (K.written out.old) (K.written out.new)) }
+    requires { IsCounted steps opened.now }
+    ensures ok { IfOk result (TellsAll (run_ended steps opened.now.cluster.model) (K.written out.old) (K.written out.new)) }
+    ensures err { IfErr result (EndStops (run_ended steps opened.now.cluster.model) (K.written out.old) (K.written out.new)) }
     ensures cause { HasWriteCause (K.faults out.old) (K.faults out.new) result }
 {
-    match end_lines(alloc, cluster) {
+    match end_lines(alloc, opened) {
         Ok(text) => match print_lines(text.as_slice(), out) {
             Ok(()) => Ok(Finished {
                 steps,
-                events: cluster.events(),
+                events: opened.cluster.events(),
             }),
             Err(fault) => Err(fault),
         },
@@ -75,12 +74,15 @@ fn print_end<K: Sink>(
     }
 }
 
-// The lines of the node.
-fn end_lines(alloc: Global, cluster: &Cluster) -> Result<ByteList, NoMemory>
-    ensures { IfOk result (λ text. text ≡ node_text 1 (end_at cluster.now) (end_rows cluster.now)) }
+// The lines of all nodes.
+fn end_lines(alloc: Global, opened: &Opened) -> Result<ByteList, NoMemory>
+    requires { length opened.now.cluster.model.nodes ≡ opened.now.nodes }
+    ensures { IfOk result (λ text. text ≡ nodes_end opened.now.cluster.model opened.now.nodes) }
 {
-    let end = cluster.end()?;
     let mut text = ByteList::new(alloc);
-    put_node(&mut text, 1, end.at, &end.rows)?;
+    'nodes: for before in 0..opened.nodes {
+        let end = opened.cluster.end(before + 1)?;
+        put_node(&mut text, before + 1, end.at, &end.rows)?;
+    }
     Ok(text)
 }

@@ -1,21 +1,27 @@
-ghost use Rattle.std.specs.Prelude.{◌≡◌, ◌+◌, ◌≤◌, ◌<◌, ◌^◌, length, Ok, Some, None, IfOk, OnOk, IfErr, IsTrue};
+ghost use Rattle.std.specs.Prelude.{◌≡◌, ◌+◌, ◌≤◌, ◌<◌, ◌^◌, length, nat_lt, Ok, Some, None, IfOk, OnOk, IfErr, IsTrue};
 ghost use Rattle.order_event.specs.Fits.{step_fits};
-ghost use Rattle.script_text.specs.Grammar.{header_of, line_of};
-ghost use Rattle.galera_run.specs.Lines.{without_newline};
-ghost use Rattle.galera_run.specs.Reading.{behind, opened_at, stepped_at, line_at};
-ghost use Rattle.galera_run.specs.Feeding.{Stands, IsRoomFor, FailsAs};
+ghost use Rattle.script_text.specs.Grammar.{first_of, line_of};
+ghost use Rattle.script_text.specs.Steps.{IsStepOf};
+ghost use Rattle.node_meaning.specs.Cluster.{will_order};
+ghost use Rattle.galera_run.specs.Reading.{most_events, behind, opened_at, stepped_at, line_at};
+ghost use Rattle.galera_run.specs.Feeding.{Stands, IsRoomFor, FailsAs, IsHeaderOf, IsOpenedBy};
 
 use crate::place::{Opened, Place};
 use cluster_core::Cluster;
+use group_order::MemGroup;
 use order_event::{Answer, Step};
-use script_text::{Line, ScriptCause, parse_header, parse_line};
+use script_text::{Header, Line, ScriptCause, parse_first, parse_line};
 use std::alloc::Global;
+use wsrep_base::NoMemory;
 
 /// The most bytes of an input.
 pub const MOST_BYTES: usize = 33_554_432;
 
 /// The most step lines of a schedule.
-pub const MOST_STEPS: u64 = 4_000;
+pub const MOST_STEPS: u64 = 200_000;
+
+/// The most events that a schedule may order.
+pub const MOST_EVENTS: u64 = 100_000;
 
 /// Why a line was not run.
 #[derive(Clone, Copy)]
@@ -45,51 +51,64 @@ pub(crate) fn take_line(
     }
 }
 
-// The first line is the header, which begins the cluster.
+// Up to the header, a line is passed over, or is the header, which begins the cluster.
+#[tactic(auto, using(crate::proofs::LineLaws::header_of_line))]
 fn open(alloc: Global, place: &mut Place, line: &[u8]) -> Result<Option<Answer>, LineFault>
     requires { IsRoomFor place.old line.now None }
-    ensures ok { IfOk result (λ answer.
-        opened_at place.old line.now (header_of (without_newline line.now)) ≡ Ok (answer, place.new)) }
+    ensures ok { IfOk result (λ answer. opened_at place.old line.now (first_of line.now) ≡ Ok (answer, place.new)) }
     ensures stands { OnOk result (Stands place.new) }
-    ensures err { IfErr result (FailsAs (opened_at place.old line.now (header_of (without_newline line.now)))) }
+    ensures err { IfErr result (FailsAs (opened_at place.old line.now (first_of line.now))) }
 {
-    match parse_header(without_newline(line)) {
-        Ok(header) => match Cluster::new(alloc, header.id) {
-            Ok(cluster) => {
-                let opened = Opened {
-                    nodes: header.nodes,
-                    cluster,
-                };
-                let steps = place.steps;
-                pass(place, line, steps, opened);
+    let steps = place.steps;
+    match parse_first(line) {
+        Ok(Some(header)) => match begin(alloc, &header) {
+            Ok(opened) => {
+                pass(place, line, steps, Some(opened));
                 Ok(None)
             }
             Err(_) => Err(LineFault::NoMemory),
         },
-        Err(cause) => Err(LineFault::Refused(cause)),
-    }
-}
-
-// A line behind the header.
-#[tactic(auto, using(script_text::proofs::FitLemmas::line_fits))]
-fn run_said(place: &mut Place, opened: Opened, line: &[u8]) -> Result<Option<Answer>, LineFault>
-    requires { IsRoomFor place.old line.now (Some opened) }
-    ensures ok { IfOk result (λ answer.
-        stepped_at place.old line.now opened (line_of opened.nodes (without_newline line.now)) ≡ Ok (answer, place.new)) }
-    ensures stands { OnOk result (Stands place.new) }
-    ensures err { IfErr result (FailsAs (stepped_at place.old line.now opened (line_of opened.nodes (without_newline line.now)))) }
-{
-    match parse_line(without_newline(line), opened.nodes) {
-        Ok(Line::Step(step)) => run_step(place, opened, line, &step),
-        Ok(Line::Blank) => {
-            let steps = place.steps;
-            pass(place, line, steps, opened);
+        Ok(None) => {
+            pass(place, line, steps, None);
             Ok(None)
         }
         Err(cause) => Err(LineFault::Refused(cause)),
     }
 }
 
+// The cluster of a header, over a group in memory.
+fn begin(alloc: Global, header: &Header) -> Result<Opened, NoMemory>
+    requires { IsHeaderOf header.now }
+    ensures { IfOk result (IsOpenedBy header.now) }
+{
+    let group = MemGroup::new(alloc, u32::from(header.nodes))?;
+    Ok(Opened {
+        nodes: header.nodes,
+        cluster: Cluster::new(alloc, group, &header.id, header.nodes, header.gcache)?,
+    })
+}
+
+// A line behind the header.
+#[tactic(auto, using(script_text::proofs::FitLemmas::line_fits, script_text::proofs::FitLemmas::line_step))]
+fn run_said(place: &mut Place, opened: Opened, line: &[u8]) -> Result<Option<Answer>, LineFault>
+    requires { IsRoomFor place.old line.now (Some opened) }
+    ensures ok { IfOk result (λ answer.
+        stepped_at place.old line.now opened (line_of opened.nodes line.now) ≡ Ok (answer, place.new)) }
+    ensures stands { OnOk result (Stands place.new) }
+    ensures err { IfErr result (FailsAs (stepped_at place.old line.now opened (line_of opened.nodes line.now))) }
+{
+    match parse_line(line, opened.nodes) {
+        Ok(Line::Step(step)) => run_step(place, opened, line, &step),
+        Ok(Line::Blank) => {
+            let steps = place.steps;
+            pass(place, line, steps, Some(opened));
+            Ok(None)
+        }
+        Err(cause) => Err(LineFault::Refused(cause)),
+    }
+}
+
+// A step, unless it would pass a limit. The group in memory never fails.
 fn run_step(
     place: &mut Place,
     mut opened: Opened,
@@ -98,42 +117,42 @@ fn run_step(
 ) -> Result<Option<Answer>, LineFault>
     requires room { IsRoomFor place.old line.now (Some opened) }
     requires names { IsTrue (step_fits step.now) }
+    requires step { IsStepOf opened.nodes step.now }
     ensures ok { IfOk result (λ answer.
         stepped_at place.old line.now opened (Ok (Line.Step step.now)) ≡ Ok (answer, place.new)) }
     ensures stands { OnOk result (Stands place.new) }
     ensures err { IfErr result (FailsAs (stepped_at place.old line.now opened (Ok (Line.Step step.now)))) }
 {
     let steps = place.steps;
-    if steps >= MOST_STEPS {
+    if steps >= MOST_STEPS || passes_events(&opened.cluster, step) {
         return Err(LineFault::Refused(ScriptCause::Limit));
     }
     match opened.cluster.step(step) {
         Ok(answer) => {
-            pass(place, line, steps + 1, opened);
+            pass(place, line, steps + 1, Some(opened));
             Ok(Some(answer))
         }
         Err(_) => Err(LineFault::NoMemory),
     }
 }
 
+// Whether the events that the step is going to order pass the limit.
+fn passes_events(cluster: &Cluster<MemGroup>, step: &Step) -> bool
+    requires node { (1 ≤ step.now.node) × (step.now.node ≤ length cluster.now.model.nodes) }
+    requires events { length cluster.now.model.order ≤ most_events }
+    ensures { result ≡ nat_lt most_events (length cluster.now.model.order + will_order cluster.now.model step.now) }
+{
+    cluster.will_order(step) > MOST_EVENTS - cluster.events()
+}
+
 // Goes behind the line.
-fn pass(place: &mut Place, line: &[u8], steps: u64, opened: Opened)
+fn pass(place: &mut Place, line: &[u8], steps: u64, state: Option<Opened>)
     requires numbered { place.old.number < 2 ^ 63 }
     requires room { place.old.before + length line.now < 2 ^ 63 }
-    ensures { place.new ≡ behind place.old line.now steps opened }
+    ensures { place.new ≡ behind place.old line.now steps state }
 {
     place.number += 1;
     place.before += line.len();
     place.steps = steps;
-    place.state = Some(opened);
-}
-
-// The line without the newline that ends it.
-fn without_newline(line: &[u8]) -> &[u8]
-    ensures { result.now ≡ without_newline line.now }
-{
-    match line {
-        [text @ .., b'\n'] => text,
-        _ => line,
-    }
+    place.state = state;
 }

@@ -1,11 +1,12 @@
 use cluster_core::Cluster;
+use group_order::MemGroup;
 
 /// The cluster of a schedule, once its header came.
 #[derive(Drop)]
 pub struct Opened {
     /// The number of nodes.
     pub nodes: u8,
-    pub cluster: Cluster,
+    pub cluster: Cluster<MemGroup>,
 }
 
 /// Where a run over the lines of a schedule stands.

@@ -14,7 +14,7 @@ use wsrep_base::ByteList;
 // The length of the slice that each read is given.
 const PIECE: usize = 4096;
 
-/// Runs a schedule: prints what each step is answered, and at the end the node's place and rows.
+/// Runs a schedule: prints what each step is answered, and at the end each node's place and rows.
 /// Each line is run as soon as it is whole. It stops at the first line at fault, and where the
 /// source or the sink fails.
 pub fn run_steps<S: Source, K: Sink>(

@@ -65,6 +65,13 @@ fn plain(word: &str) -> Given<'_> {
     }
 }
 
+// A sink with much room.
+fn large() -> Given<'static> {
+    let mut given = plain("steps");
+    given.room = 10_000_000;
+    given
+}
+
 #[test]
 fn pieces_of_any_size_give_the_same_text(rt: HostRuntime) -> Result<(), Fail> {
     for most in [1, 7, 80, 4096] {
@@ -113,34 +120,81 @@ fn status_of_words(alloc: Global, words: &[&str]) -> Result<u8, AllocError> {
     Ok(galera_steps(alloc, &given, &mut source, &mut sink))
 }
 
-// Inputs whose run ends as it says.
+// Inputs that are refused before a cluster begins.
 #[test]
-fn inputs_and_their_texts(rt: HostRuntime) -> Result<(), Fail> {
-    for (input, status, text) in [
-        ("", 2, "SCRIPT 1 grammar\n"),
-        ("\n", 2, "SCRIPT 1 grammar\n"),
-        ("# a comment\n", 2, "SCRIPT 1 grammar\n"),
+fn inputs_without_a_cluster(rt: HostRuntime) -> Result<(), Fail> {
+    for (input, text) in [
+        ("", "SCRIPT 1 grammar\n"),
+        ("\n", "SCRIPT 2 grammar\n"),
+        ("# a comment", "SCRIPT 2 grammar\n"),
+        ("# a comment\r\n \t\n\n1 take\n", "SCRIPT 4 grammar\n"),
         (
-            "cluster 2 gcache 65536 id 00000000-0000-0000-0000-0000000000a1\n",
-            2,
+            "cluster 0 gcache 1 id 00000000-0000-0000-0000-0000000000a1\n",
             "SCRIPT 1 grammar\n",
         ),
         (
-            "cluster 1 gcache 65536 id 00000000-0000-0000-0000-0000000000a1",
-            0,
-            "node 1 at 0\n",
+            "cluster 10 gcache 1 id 00000000-0000-0000-0000-0000000000a1\n",
+            "SCRIPT 1 limit\n",
+        ),
+        (
+            "\ncluster 9 gcache 16777217 id 00000000-0000-0000-0000-0000000000a1\n",
+            "SCRIPT 2 limit\n",
+        ),
+        (
+            "cluster 1 gcache 1 id 00000000-0000-0000-0000-000000000000\n",
+            "SCRIPT 1 grammar\n",
         ),
     ] {
         let end = run_given(rt.alloc(), &plain("steps"), input.as_bytes())?;
-        assert_eq!(rt; end.status, status, "{input}");
+        assert_eq!(rt; end.status, 2, "{input}");
         assert_eq!(rt; end.text.as_slice(), text.as_bytes(), "{input}");
     }
+    for (len, text) in [(512, "SCRIPT 2 grammar\n"), (513, "SCRIPT 1 limit\n")] {
+        let mut input = ByteList::new(rt.alloc());
+        for _ in 0..len {
+            input.push(b'#')?;
+        }
+        input.push(b'\n')?;
+        let end = run_given(rt.alloc(), &plain("steps"), input.as_slice())?;
+        assert_eq!(rt; end.status, 2, "a comment of {len} bytes");
+        assert_eq!(rt;
+            end.text.as_slice(),
+            text.as_bytes(),
+            "a comment of {len} bytes"
+        );
+    }
+    Ok(())
+}
+
+// The line with byte 33,554,433 passes the limit, whatever it says.
+#[test]
+fn a_byte_too_many(rt: HostRuntime) -> Result<(), Fail> {
+    let mut input = bytes_of(rt.alloc(), b"# first\n")?;
+    for _ in input.len()..33_554_433 {
+        input.push(b'x')?;
+    }
+    let end = run_given(rt.alloc(), &plain("steps"), input.as_slice())?;
+    assert_eq!(rt; end.status, 2);
+    assert_eq!(rt; end.text.as_slice(), b"SCRIPT 2 limit\n".as_slice());
+    Ok(())
+}
+
+// Lines behind a header of one node.
+#[test]
+fn lines_and_their_texts(rt: HostRuntime) -> Result<(), Fail> {
     for (lines, status, text) in [
+        ("", 0, "node 1 at 0\n"),
         ("1.1 begin\n", 0, "2 NOT SYNCED\nnode 1 at 0\n"),
         ("1 take\n1.1 com", 2, "2 TOOK 1\nSCRIPT 3 grammar\n"),
-        ("1 take\n1  certify\n", 2, "2 TOOK 1\nSCRIPT 3 grammar\n"),
-        ("1 take\r\n", 2, "SCRIPT 2 grammar\n"),
-        ("1 start 2\n", 2, "SCRIPT 2 grammar\n"),
+        (
+            "\t1  take\r\n# 1 certify\n\n01 certify",
+            0,
+            "2 TOOK 1\n5 VIEW 1\nnode 1 at 0\n",
+        ),
+        ("1 take\n1 take\r", 2, "2 TOOK 1\nSCRIPT 3 grammar\n"),
+        ("2 take\n", 2, "SCRIPT 2 grammar\n"),
+        ("1.33 begin\n", 2, "SCRIPT 2 limit\n"),
+        ("1.33 begin now\n", 2, "SCRIPT 2 grammar\n"),
         (
             "1 order\n1 certify\n1 advance\n1 take\n1 take\n1 certify\n1 advance\n1.1 poll\n1.1 commit\n1.1 insert acct a 1\n1.1 read acct a\n1.1 begin\n1.1 begin\n1.1 poll\n1.1 insert acct a 1 2\n1.1 insert acct a 3\n1.1 read acct a\n1.1 commit\n1.1 read acct a\n1 order\n1 take\n1 certify\n1 advance\n1.1 begin\n1.1 begin\n1.1 insert acct a 9\n1.1 commit\n",
             0,
@@ -152,6 +206,26 @@ fn inputs_and_their_texts(rt: HostRuntime) -> Result<(), Fail> {
         let end = run_given(rt.alloc(), &plain("steps"), input.as_slice())?;
         assert_eq!(rt; end.status, status, "{lines}");
         assert_eq!(rt; end.text.as_slice(), text.as_bytes(), "{lines}");
+    }
+    Ok(())
+}
+
+// Two nodes insert one row, and nine nodes each show their place.
+#[test]
+fn clusters_of_several_nodes(rt: HostRuntime) -> Result<(), Fail> {
+    for (input, text) in [
+        (
+            "# first committer wins\ncluster 2 gcache 65536 id 00000000-0000-0000-0000-0000000000a1\n1 take\n1 certify\n1 advance\n2 take\n2 certify\n2 advance\n1.1 begin\n1.1 insert acct a 1\n2.1 begin\n2.1 insert acct a 2\n1.1 commit\n2.1 commit\n1 order\n2 order\n2 take\n2 take\n2 certify\n2 certify\n2.1 poll\n2 advance\n",
+            "3 TOOK 1\n4 VIEW 1\n5 AT 1\n6 TOOK 1\n7 VIEW 1\n8 AT 1\n9 OK\n10 OK\n11 OK\n12 OK\n13 PENDING\n14 PENDING\n15 ORDERED 2\n16 ORDERED 3\n17 TOOK 2\n18 TOOK 3\n19 PASS 2 COMMIT\n20 FAIL 3 CONFLICT 2\n21 DEADLOCK CERT 2\n22 NOT READY 2\nnode 1 at 1\nnode 2 at 1\n",
+        ),
+        (
+            "cluster 9 gcache 0 id 00000000-0000-0000-0000-0000000000a1\n9 take\n9 certify\n9 advance\n",
+            "2 TOOK 1\n3 VIEW 1\n4 AT 1\nnode 1 at 0\nnode 2 at 0\nnode 3 at 0\nnode 4 at 0\nnode 5 at 0\nnode 6 at 0\nnode 7 at 0\nnode 8 at 0\nnode 9 at 1\n",
+        ),
+    ] {
+        let end = run_given(rt.alloc(), &plain("steps"), input.as_bytes())?;
+        assert_eq!(rt; end.status, 0, "{input}");
+        assert_eq!(rt; end.text.as_slice(), text.as_bytes(), "{input}");
     }
     Ok(())
 }
@@ -208,45 +282,25 @@ fn a_sink_that_fails(rt: HostRuntime) -> Result<(), Fail> {
     Ok(())
 }
 
+// Comments and empty lines are no step lines. The last line of the schedule is one more step.
 #[test]
-fn limits(rt: HostRuntime) -> Result<(), Fail> {
+fn step_lines_within_their_limit(rt: HostRuntime) -> Result<(), Fail> {
     for (steps, status, last) in [
-        (4000, 0, "\nnode 1 at 0\n"),
-        (4001, 2, "\nSCRIPT 4002 limit\n"),
+        (199_999, 0, "\n200003 NOTHING\nnode 1 at 0\n"),
+        (200_000, 2, "\nSCRIPT 200004 limit\n"),
     ] {
         let mut input = bytes_of(rt.alloc(), HEADER.as_bytes())?;
+        input.extend(b"# a comment\n\n")?;
         for _ in 0..steps {
             input.extend(b"1 take\n")?;
         }
-        let end = run_given(rt.alloc(), &plain("steps"), input.as_slice())?;
+        input.extend(b"1 advance\n")?;
+        let end = run_given(rt.alloc(), &large(), input.as_slice())?;
         assert_eq!(rt; end.status, status, "{steps} step lines");
         assert!(rt;
             end.text.as_slice().ends_with(last.as_bytes()),
             "{steps} step lines"
         );
     }
-    // No line of this grammar is so long, and grammar comes first.
-    for len in [512, 513] {
-        let mut input = bytes_of(rt.alloc(), HEADER.as_bytes())?;
-        for _ in 0..len {
-            input.push(b'1')?;
-        }
-        input.push(b'\n')?;
-        let end = run_given(rt.alloc(), &plain("steps"), input.as_slice())?;
-        assert_eq!(rt; end.status, 2, "a line of {len} bytes");
-        assert_eq!(rt;
-            end.text.as_slice(),
-            b"SCRIPT 2 grammar\n".as_slice(),
-            "a line of {len} bytes"
-        );
-    }
-    // The line with byte 33,554,433 passes the limit, whatever it says.
-    let mut input = bytes_of(rt.alloc(), HEADER.as_bytes())?;
-    for _ in HEADER.len()..33_554_433 {
-        input.push(b'x')?;
-    }
-    let end = run_given(rt.alloc(), &plain("steps"), input.as_slice())?;
-    assert_eq!(rt; end.status, 2);
-    assert_eq!(rt; end.text.as_slice(), b"SCRIPT 2 limit\n".as_slice());
     Ok(())
 }

@@ -1,5 +1,5 @@
 -- The definitions at worked lines.
-use Rattle.std.proofs.Common.{◌≡◌, [], ◌∷◌, ◌++◌, replicate, Ok, Err, refl}
+use Rattle.std.proofs.Common.{◌≡◌, [], ◌∷◌, ◌++◌, replicate, None, Some, Ok, Err, refl}
 use Rattle.std.specs.Prelude.{codes}
 use Rattle.order_event.specs.declared.step.Act.TheVariants as act
 use Rattle.row_model.specs.declared.calls.Call.TheVariants as call
@@ -8,52 +8,98 @@ use Rattle.script_text.specs.declared.line.Line.TheVariants as line
 use Rattle.script_text.specs.declared.line.ScriptCause.TheVariants as cause
 use Rattle.uuid.proofs.OnLiterals.{uuid_on_literals}
 use Rattle.wsrep_base.specs.StateId.{id_of}
-use Rattle.script_text.specs.Words.{words_of}
-use Rattle.script_text.specs.Fields.{number_of, node_of, session_of, name_of, row_id_of, only_row, numbers_of, values_of}
-use Rattle.script_text.specs.Grammar.{insert_of, call_of, verb_of, who_of, act_of, step_of, line_of, header_at, header_of}
+use Rattle.script_text.specs.Words.{text_of, words_of}
+use Rattle.script_text.specs.Fields.{number_of, counting_of, node_of, name_of, row_id_of, only_row, numbers_of, values_of, pair_of, pairs_of, change_of}
+use Rattle.script_text.specs.Grammar.{insert_of, update_of, call_of, verb_of, who_of, act_of, step_of, is_passed_over, said_of, line_of, header_at, header_of, first_of}
 
 -- the row `a` of the table `acct`
 abbrev account : RowId
 account = record { table = codes "acct" ++ replicate 12 0; row = codes "a" ++ replicate 15 0 }
 
 takes : line_of 1 (codes "1 take") ≡ Ok (line.Step (record { node = 1; act = act.Take }))
-unfolding words_of number_of node_of verb_of who_of act_of step_of line_of
+unfolding text_of words_of number_of counting_of node_of verb_of who_of act_of step_of is_passed_over said_of line_of
 takes = refl
 
-zeros_are_read : line_of 1 (codes "01.001 poll") ≡ Ok (line.Step (record { node = 1; act = act.Client 1 call.Poll }))
-unfolding words_of number_of node_of session_of call_of who_of act_of step_of line_of
+blanks_and_line_end : line_of 2 (codes "\t 2 \ttake  \r\n") ≡ Ok (line.Step (record { node = 2; act = act.Take }))
+unfolding text_of words_of number_of counting_of node_of verb_of who_of act_of step_of is_passed_over said_of line_of
+blanks_and_line_end = refl
+
+return_at_the_end_of_input : line_of 1 (codes "1 take\r") ≡ Err cause.Grammar
+unfolding text_of words_of number_of counting_of node_of verb_of who_of act_of step_of is_passed_over said_of line_of
+return_at_the_end_of_input = refl
+
+of_two_returns_one_stays : line_of 1 (codes "1 take\r\r\n") ≡ Err cause.Grammar
+unfolding text_of words_of number_of counting_of node_of verb_of who_of act_of step_of is_passed_over said_of line_of
+of_two_returns_one_stays = refl
+
+zeros_are_read : line_of 1 (codes "01.001 poll\n") ≡ Ok (line.Step (record { node = 1; act = act.Client 1 call.Poll }))
+unfolding text_of words_of number_of counting_of node_of call_of who_of act_of step_of is_passed_over said_of line_of
 zeros_are_read = refl
 
-inserts : line_of 1 (codes "1.1 insert acct a 7 08")
-    ≡ Ok (line.Step (record { node = 1; act = act.Client 1 (call.Insert account (7 ∷ 8 ∷ [])) }))
-unfolding words_of number_of node_of session_of name_of row_id_of numbers_of values_of insert_of call_of who_of act_of step_of line_of
+inserts : line_of 1 (codes "1.32 insert acct a 7 08\n")
+    ≡ Ok (line.Step (record { node = 1; act = act.Client 32 (call.Insert account (7 ∷ 8 ∷ [])) }))
+unfolding text_of words_of number_of counting_of node_of name_of row_id_of numbers_of values_of insert_of call_of who_of act_of step_of is_passed_over said_of line_of
 inserts = refl
 
-reads : line_of 1 (codes "1.1 read acct a") ≡ Ok (line.Step (record { node = 1; act = act.Client 1 (call.Read account) }))
-unfolding words_of number_of node_of session_of name_of row_id_of only_row call_of who_of act_of step_of line_of
-reads = refl
+updates : line_of 1 (codes "1.1 update acct a 1=70 8=5\n")
+    ≡ Ok (line.Step (record { node = 1; act = act.Client 1 (call.Update account (Some 70 ∷ replicate 6 None ++ Some 5 ∷ [])) }))
+unfolding text_of words_of number_of counting_of node_of name_of row_id_of pair_of pairs_of change_of update_of call_of who_of act_of step_of is_passed_over said_of line_of
+updates = refl
 
-two_spaces : line_of 1 (codes "1  take") ≡ Err cause.Grammar
-unfolding words_of number_of node_of verb_of who_of act_of step_of line_of
-two_spaces = refl
+columns_that_stay : line_of 1 (codes "1.1 update acct a 2=1 2=1\n") ≡ Err cause.Grammar
+unfolding text_of words_of number_of counting_of node_of name_of row_id_of pair_of pairs_of change_of update_of call_of who_of act_of step_of is_passed_over said_of line_of
+columns_that_stay = refl
 
-no_second_node : line_of 1 (codes "2 take") ≡ Err cause.Grammar
-unfolding words_of number_of node_of verb_of who_of act_of step_of line_of
-no_second_node = refl
+shares : line_of 1 (codes "1.1 share acct a") ≡ Ok (line.Step (record { node = 1; act = act.Client 1 (call.Share account) }))
+unfolding text_of words_of number_of counting_of node_of name_of row_id_of only_row call_of who_of act_of step_of is_passed_over said_of line_of
+shares = refl
 
-empty_line : line_of 1 [] ≡ Err cause.Grammar
-unfolding words_of number_of node_of who_of step_of line_of
+session_33 : line_of 1 (codes "1.33 poll") ≡ Err cause.Limit
+unfolding text_of words_of number_of counting_of node_of call_of who_of act_of step_of is_passed_over said_of line_of
+session_33 = refl
+
+grammar_before_limits : line_of 1 (codes "1.33 poll 1") ≡ Err cause.Grammar
+unfolding text_of words_of number_of counting_of node_of call_of who_of act_of step_of is_passed_over said_of line_of
+grammar_before_limits = refl
+
+no_third_node : line_of 2 (codes "3 take") ≡ Err cause.Grammar
+unfolding text_of words_of number_of counting_of node_of verb_of who_of act_of step_of is_passed_over said_of line_of
+no_third_node = refl
+
+empty_line : line_of 1 [] ≡ Ok line.Blank
+unfolding text_of words_of is_passed_over said_of line_of
 empty_line = refl
 
-one_node : header_of (codes "cluster 1 gcache 65536 id 00000000-0000-0000-0000-0000000000a1")
-    ≡ Ok (record { nodes = 1; gcache = 65536; id = replicate 15 0 ++ 161 ∷ [] })
-unfolding words_of number_of header_at header_of id_of uuid_on_literals
-one_node = refl
+comment : line_of 1 (codes "\t# 1 take\n") ≡ Ok line.Blank
+unfolding text_of words_of is_passed_over said_of line_of
+comment = refl
 
-two_nodes : header_of (codes "cluster 2 gcache 65536 id 00000000-0000-0000-0000-0000000000a1") ≡ Err cause.Grammar
-unfolding words_of number_of header_at header_of id_of uuid_on_literals
-two_nodes = refl
+comment_of_513_bytes : line_of 1 (replicate 513 35) ≡ Err cause.Limit
+unfolding text_of words_of is_passed_over said_of line_of
+comment_of_513_bytes = refl
 
-nil_id : header_of (codes "cluster 1 gcache 65536 id 00000000-0000-0000-0000-000000000000") ≡ Err cause.Grammar
-unfolding words_of number_of header_at header_of id_of uuid_on_literals
+nine_nodes : header_of (codes "cluster 9 gcache 16777216 id 00000000-0000-0000-0000-0000000000a1\n")
+    ≡ Ok (record { nodes = 9; gcache = 16_777_216; id = replicate 15 0 ++ 161 ∷ [] })
+unfolding text_of words_of number_of counting_of header_at header_of id_of uuid_on_literals
+nine_nodes = refl
+
+ten_nodes : header_of (codes "cluster 10 gcache 65536 id 00000000-0000-0000-0000-0000000000a1") ≡ Err cause.Limit
+unfolding text_of words_of number_of counting_of header_at header_of id_of uuid_on_literals
+ten_nodes = refl
+
+ring_too_great : header_of (codes "cluster 1 gcache 16777217 id 00000000-0000-0000-0000-0000000000a1") ≡ Err cause.Limit
+unfolding text_of words_of number_of counting_of header_at header_of id_of uuid_on_literals
+ring_too_great = refl
+
+nil_id : header_of (codes "cluster 10 gcache 65536 id 00000000-0000-0000-0000-000000000000") ≡ Err cause.Grammar
+unfolding text_of words_of number_of counting_of header_at header_of id_of uuid_on_literals
 nil_id = refl
+
+before_the_header : first_of (codes "# a cluster\n") ≡ Ok None
+unfolding text_of words_of is_passed_over header_at first_of
+before_the_header = refl
+
+the_header : first_of (codes "cluster 1 gcache 0 id 00000000-0000-0000-0000-0000000000a1\r\n")
+    ≡ Ok (Some (record { nodes = 1; gcache = 0; id = replicate 15 0 ++ 161 ∷ [] }))
+unfolding text_of words_of number_of counting_of is_passed_over header_at first_of id_of uuid_on_literals
+the_header = refl

@@ -1,3 +1,4 @@
+mod ChangeLemmas
 mod Examples
 mod NumberLemmas
 mod ValueLemmas

@@ -1,3 +1,5 @@
 pub mod Words
 pub mod Fields
 pub mod Grammar
+pub mod Steps
+pub mod Written

@@ -1,7 +1,7 @@
 ghost use Rattle.std.specs.Prelude.{◌≡◌};
-ghost use Rattle.script_text.specs.Grammar.{call_of, insert_of};
+ghost use Rattle.script_text.specs.Grammar.{call_of, insert_of, update_of};
 
-use crate::fields::{only_row, row_id, values};
+use crate::fields::{change, only_row, row_id, values};
 use crate::words::{Words, alone, is};
 use row_model::Call;
 
@@ -15,10 +15,18 @@ pub(crate) fn call(words: &mut Words) -> Option<Call>
         alone(Call::Begin(0), words)
     } else if is(verb, b"insert") {
         insert(words)
+    } else if is(verb, b"update") {
+        update(words)
+    } else if is(verb, b"delete") {
+        Some(Call::Delete(only_row(words)?))
+    } else if is(verb, b"share") {
+        Some(Call::Share(only_row(words)?))
     } else if is(verb, b"read") {
         Some(Call::Read(only_row(words)?))
     } else if is(verb, b"commit") {
         alone(Call::Commit, words)
+    } else if is(verb, b"rollback") {
+        alone(Call::Rollback, words)
     } else if is(verb, b"poll") {
         alone(Call::Poll, words)
     } else {
@@ -34,4 +42,14 @@ fn insert(words: &mut Words) -> Option<Call>
     let row = words.next()?;
     let id = row_id(table, row)?;
     Some(Call::Insert(id, values(words)?))
+}
+
+#[tactic(auto, unfolding(crate::specs::Grammar::update_of))]
+fn update(words: &mut Words) -> Option<Call>
+    ensures { result ≡ update_of words.old }
+{
+    let table = words.next()?;
+    let row = words.next()?;
+    let id = row_id(table, row)?;
+    Some(Call::Update(id, change(words)?))
 }

@@ -1,12 +1,12 @@
 ghost use Rattle.std.specs.Prelude.{◌≡◌, ◌≤◌, ◌-◌, ◌++◌, length, replicate};
 ghost use Rattle.std.specs.Char.{is_ascii_digit};
 ghost use Rattle.std.specs.List.{list_all};
-ghost use Rattle.script_text.specs.Fields.{number_of, node_of, session_of, name_of};
+ghost use Rattle.script_text.specs.Fields.{number_of, only_number, counting_of, node_of, name_of};
 ghost use Rattle.script_text.specs.Fields.{is_table_letter, is_row_letter, row_id_of, only_row};
-ghost use Rattle.script_text.specs.Fields.{values_of};
+ghost use Rattle.script_text.specs.Fields.{values_of, pair_of, change_of};
 
-use crate::words::{Words, alone};
-use row_model::{Row, RowId};
+use crate::words::{Words, alone, place_of};
+use row_model::{Change, Row, RowId};
 
 // The most digits of a number.
 const MOST_DIGITS: usize = 20;
@@ -29,23 +29,25 @@ fn are_digits(word: &[u8]) -> bool
     word.iter().all(|b| b.is_ascii_digit())
 }
 
+// A number of at least 1.
+#[tactic(auto, unfolding(crate::specs::Fields::counting_of))]
+pub(crate) fn counting(word: &[u8]) -> Option<u64>
+    ensures { result ≡ counting_of word.now }
+{
+    let number = number(word)?;
+    if number == 0 { None } else { Some(number) }
+}
+
 // A node of so many.
 #[tactic(auto, unfolding(crate::specs::Fields::node_of))]
 pub(crate) fn node(word: &[u8], nodes: u8) -> Option<u8>
     ensures { result ≡ node_of nodes word.now }
 {
-    let number = number(word)?;
-    if number < 1 || number > u64::from(nodes) {
+    let node = counting(word)?;
+    if node > u64::from(nodes) {
         return None;
     }
-    Some(number as u8)
-}
-
-#[tactic(auto, unfolding(crate::specs::Fields::session_of))]
-pub(crate) fn session(word: &[u8]) -> Option<u8>
-    ensures { result ≡ session_of word.now }
-{
-    if number(word)? == 1 { Some(1) } else { None }
+    Some(node as u8)
 }
 
 #[tactic(auto, unfolding(crate::specs::Fields::row_id_of))]
@@ -100,6 +102,15 @@ fn padded(word: &[u8]) -> [u8; 16]
     name
 }
 
+// A number, and nothing behind it.
+#[tactic(auto, unfolding(crate::specs::Fields::only_number))]
+pub(crate) fn only_number(words: &mut Words) -> Option<u64>
+    ensures { result ≡ only_number words.old }
+{
+    let word = words.next()?;
+    alone(number(word)?, words)
+}
+
 // A row, and nothing behind it.
 #[tactic(auto, unfolding(crate::specs::Fields::only_row))]
 pub(crate) fn only_row(words: &mut Words) -> Option<RowId>
@@ -125,4 +136,30 @@ pub(crate) fn values(words: &mut Words) -> Option<Row>
         count += 1;
     }
     Row::of(&values[..count])
+}
+
+// A column and its new value.
+#[tactic(auto, unfolding(crate::specs::Fields::pair_of))]
+fn column_and_value(word: &[u8]) -> Option<(u64, u64)>
+    ensures { result ≡ pair_of word.now }
+{
+    let at = place_of(word, b'=')?;
+    Some((number(&word[..at])?, number(&word[at + 1..])?))
+}
+
+// New values for the columns of a row.
+pub(crate) fn change(words: &mut Words) -> Option<Change>
+    ensures { result ≡ change_of words.old }
+{
+    let mut change = [None; 8];
+    let mut last = 0;
+    while let Some(word) = words.next() {
+        let (column, value) = column_and_value(word)?;
+        if column <= last || column > 8 {
+            return None;
+        }
+        change[column as usize - 1] = Some(value);
+        last = column;
+    }
+    if last == 0 { None } else { Some(change) }
 }

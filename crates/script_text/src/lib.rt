@@ -3,10 +3,14 @@
 
 mod calls;
 mod fields;
+mod header;
 mod line;
 mod parse;
 mod steps;
 mod words;
 
 pub use line::{Header, Line, ScriptCause};
-pub use parse::{parse_header, parse_line};
+pub use parse::{parse_first, parse_header, parse_line};
+
+#[cfg(test)]
+mod tests;

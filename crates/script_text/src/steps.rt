@@ -1,40 +1,87 @@
-ghost use Rattle.std.specs.Prelude.{◌≡◌};
-ghost use Rattle.script_text.specs.Grammar.{verb_of, who_of, act_of, step_of};
+ghost use Rattle.std.specs.Prelude.{◌≡◌, Some, option_map};
+ghost use Rattle.script_text.specs.Grammar.{verb_of, who_of, step_of, act_is_within, step_is_within, judged};
+ghost use Rattle.script_text.specs.Written.{step_written};
 
 use crate::calls::call;
-use crate::fields::{node, session};
+use crate::fields::{counting, node, only_number};
+use crate::line::ScriptCause;
 use crate::words::{Words, alone, is, place_of};
 use order_event::{Act, Step};
+use row_model::Call;
 
-#[tactic(auto, unfolding(crate::specs::Grammar::step_of))]
-pub(crate) fn written_step(words: &mut Words, nodes: u8) -> Option<Step>
-    ensures { result ≡ step_of nodes words.old }
+// The most sessions of a node.
+const SESSIONS_MAX: u8 = 32;
+
+// A step as it is written. The number of its session may be too great.
+#[derive(Clone, Copy)]
+enum WrittenStep {
+    Session(u8, u64, Call),
+    Node(u8, Act),
+}
+
+// A step of one of so many nodes.
+pub(crate) fn step(words: &mut Words, nodes: u8) -> Result<Step, ScriptCause>
+    ensures { result ≡ judged step_is_within (step_of nodes words.old) }
 {
-    let (node, session) = who(words.next()?, nodes)?;
-    Some(Step {
-        node,
-        act: written_act(session, words)?,
-    })
+    match written_step(words, nodes) {
+        Some(step) => step_within(step),
+        None => Err(ScriptCause::Grammar),
+    }
+}
+
+#[tactic(auto, unfolding(crate::specs::Grammar::step_of, crate::specs::Grammar::act_of))]
+fn written_step(words: &mut Words, nodes: u8) -> Option<WrittenStep>
+    ensures { option_map step_written result ≡ step_of nodes words.old }
+{
+    match who(words.next()?, nodes)? {
+        (node, Some(session)) => Some(WrittenStep::Session(node, session, call(words)?)),
+        (node, None) => Some(WrittenStep::Node(node, verb(words)?)),
+    }
+}
+
+// The step, unless it passes a limit.
+fn step_within(step: WrittenStep) -> Result<Step, ScriptCause>
+    ensures { result ≡ judged step_is_within (Some (step_written step)) }
+{
+    match step {
+        WrittenStep::Session(node, session, call) => match u8::try_from(session) {
+            Ok(session) => within(Step {
+                node,
+                act: Act::Client(session, call),
+            }),
+            Err(_) => Err(ScriptCause::Limit),
+        },
+        WrittenStep::Node(node, act) => within(Step { node, act }),
+    }
+}
+
+fn within(step: Step) -> Result<Step, ScriptCause>
+    ensures { result ≡ judged step_is_within (Some step) }
+{
+    if is_within(&step.act) {
+        Ok(step)
+    } else {
+        Err(ScriptCause::Limit)
+    }
+}
+
+fn is_within(act: &Act) -> bool
+    ensures { result ≡ act_is_within act.now }
+{
+    match act {
+        Act::Client(session, _) => *session <= SESSIONS_MAX,
+        _ => true,
+    }
 }
 
 // A node, and its session where one is named.
 #[tactic(auto, unfolding(crate::specs::Grammar::who_of))]
-fn who(word: &[u8], nodes: u8) -> Option<(u8, Option<u8>)>
+fn who(word: &[u8], nodes: u8) -> Option<(u8, Option<u64>)>
     ensures { result ≡ who_of nodes word.now }
 {
     match place_of(word, b'.') {
-        Some(at) => Some((node(&word[..at], nodes)?, Some(session(&word[at + 1..])?))),
+        Some(at) => Some((node(&word[..at], nodes)?, Some(counting(&word[at + 1..])?))),
         None => Some((node(word, nodes)?, None)),
-    }
-}
-
-#[tactic(auto, unfolding(crate::specs::Grammar::act_of))]
-fn written_act(session: Option<u8>, words: &mut Words) -> Option<Act>
-    ensures { result ≡ act_of session words.old }
-{
-    match session {
-        Some(session) => Some(Act::Client(session, call(words)?)),
-        None => verb(words),
     }
 }
 
@@ -50,8 +97,14 @@ fn verb(words: &mut Words) -> Option<Act>
         alone(Act::Take, words)
     } else if is(verb, b"certify") {
         alone(Act::Certify, words)
+    } else if is(verb, b"start") {
+        Some(Act::Start(only_number(words)?))
+    } else if is(verb, b"finish") {
+        Some(Act::Finish(only_number(words)?))
     } else if is(verb, b"advance") {
         alone(Act::Advance, words)
+    } else if is(verb, b"drain") {
+        alone(Act::Drain, words)
     } else {
         None
     }

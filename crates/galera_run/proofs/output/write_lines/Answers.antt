@@ -1,4 +1,4 @@
-use Rattle.std.proofs.Common.{◌≡◌, ◌∙◌}
+use Rattle.std.proofs.Common.{◌∙◌}
 use Rattle.galera_run.proofs.Writes.{sends_more, sends_front, drop_rest, front_of_part, at_err}
 use Rattle.galera_run.proofs.output.write_lines.Goals as goal
 

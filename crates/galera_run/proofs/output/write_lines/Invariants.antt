@@ -1,4 +1,4 @@
-use Rattle.std.proofs.Common.{◌≡◌, ℕ, length}
+use Rattle.std.proofs.Common.{◌≡◌, length}
 use Rattle.galera_run.proofs.Writes.{Sends}
 use Rattle.galera_run.proofs.output.write_lines.Given as goal
 

@@ -1,4 +1,4 @@
-use Rattle.std.proofs.Common.{◌≡◌, ◌∙◌}
+use Rattle.std.proofs.Common.{◌∙◌}
 use Rattle.galera_run.proofs.Writes.{sends_more, drop_rest}
 use Rattle.galera_run.proofs.output.write_piece.Goals as goal
 

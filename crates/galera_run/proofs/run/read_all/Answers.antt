@@ -1,4 +1,4 @@
-use Rattle.std.proofs.Common.{◌≡◌, ◌∙◌}
+use Rattle.std.proofs.Common.{◌∙◌}
 use Rattle.galera_run.proofs.Sources.{reads_both, reads_stop}
 use Rattle.galera_run.proofs.run.read_all.Goals as goal
 

@@ -1,4 +1,4 @@
-use Rattle.galera_run.proofs.Sources.{reads_nothing, piece_stops}
+use Rattle.galera_run.proofs.Sources.{reads_nothing}
 use Rattle.galera_run.proofs.run.read_piece.Goals as goal
 
 pub returns-in-Err-clause-err : goal.returns-in-Err-clause-err

@@ -1,4 +1,4 @@
-use Rattle.std.proofs.Common.{◌≡◌, arith, ◌∙◌}
+use Rattle.std.proofs.Common.{arith, ◌∙◌}
 use Rattle.galera_run.proofs.Readings.{stops_within, feeds_more}
 use Rattle.galera_run.proofs.script.feed.Goals as goal
 

@@ -1,5 +1,5 @@
-use Rattle.std.proofs.Common.{◌≡◌, [], arith}
-use Rattle.galera_run.proofs.Readings.{too_far, line_stops}
+use Rattle.std.proofs.Common.{[], arith}
+use Rattle.galera_run.proofs.Readings.{too_far}
 use Rattle.galera_run.proofs.Writes.{appends_nothing}
 use Rattle.galera_run.proofs.script.take_byte.Goals as goal
 

@@ -1,0 +1,10 @@
+//! The changes of one write set, done on the committed rows that they name.
+#![tactic(auto)]
+
+mod done;
+mod task;
+#[cfg(test)]
+mod tests;
+
+pub use done::Done;
+pub use task::Task;

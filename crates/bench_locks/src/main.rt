@@ -1,0 +1,158 @@
+//! Measures the calls of the table of locks and of rows with owners, beside 1,000 and 100,000
+//! entries of others. With no argument it does one round of each and prints what it found; with
+//! any argument it prints nanoseconds a round.
+#![tactic(auto)]
+
+use anyhow::Result;
+use key_sets::{Kind, Parts};
+use row_locks::{Grant, Holder, LockTable};
+use row_model::{Op, Row, RowId};
+use std::alloc::Global;
+use std::env;
+use std::time::Instant;
+use undo_rows::{Overlay, Rows};
+use wsrep_base::NoMemory;
+
+/// The session whose calls are measured.
+const OWN: u8 = 5;
+
+// What is measured.
+#[derive(Clone, Copy)]
+enum Work {
+    Check,
+    GrantAndRelease,
+    Committed,
+    WriteAndRollBack,
+}
+
+impl Work {
+    fn name(self) -> &'static str {
+        match self {
+            Work::Check => "check",
+            Work::GrantAndRelease => "grant, release",
+            Work::Committed => "committed",
+            Work::WriteAndRollBack => "write, roll_back",
+        }
+    }
+
+    // One round on the row with this number; 1 where it found what it should.
+    fn done(self, tables: &mut Tables, number: u32) -> Result<u64, NoMemory> {
+        let id = row_id(number);
+        match self {
+            Work::Check => {
+                let blocker = tables
+                    .locks
+                    .check(Holder::Session(OWN), &parts_of(&id), Kind::Update);
+                Ok(u64::from(blocker.is_some()))
+            }
+            Work::GrantAndRelease => tables.grant_and_release(&id),
+            Work::Committed => Ok(u64::from(tables.rows.committed(&id).is_some())),
+            Work::WriteAndRollBack => tables.write_and_roll_back(&id),
+        }
+    }
+}
+
+// The tables that are measured.
+#[derive(Drop)]
+struct Tables {
+    locks: LockTable,
+    rows: Overlay,
+}
+
+impl Tables {
+    // So many rows, each committed and locked by one of four sessions.
+    fn filled(alloc: Global, count: u32) -> Result<Tables, NoMemory> {
+        let mut locks = LockTable::new(alloc)?;
+        let mut rows = Overlay::new(alloc)?;
+        for number in 0..count {
+            let id = row_id(number);
+            let session = (number % 4) as u8 + 1;
+            locks.grant(Holder::Session(session), &parts_of(&id), Kind::Exclusive)?;
+            if let Some(row) = Row::of(&[u64::from(number)]) {
+                rows.write(session, &Op::Insert(id, row))?;
+            }
+        }
+        for session in 1..5_u8 {
+            rows.keep(session);
+        }
+        Ok(Tables { locks, rows })
+    }
+
+    // A key of the row's table that nobody has is granted, and goes.
+    fn grant_and_release(&mut self, id: &RowId) -> Result<u64, NoMemory> {
+        let mut parts = parts_of(id);
+        parts.table[1] = b'u';
+        let grant = self
+            .locks
+            .grant(Holder::Session(OWN), &parts, Kind::Exclusive)?;
+        self.locks.release(Holder::Session(OWN));
+        Ok(u64::from(matches!(&grant, Grant::Held)))
+    }
+
+    // The row is deleted, and the change goes.
+    fn write_and_roll_back(&mut self, id: &RowId) -> Result<u64, NoMemory> {
+        self.rows.write(OWN, &Op::Delete(*id))?;
+        let gone = self.rows.seen_by(OWN, id).is_none();
+        self.rows.roll_back(OWN);
+        Ok(u64::from(gone))
+    }
+}
+
+// A row of one table.
+fn row_id(number: u32) -> RowId {
+    let mut table = [0; 16];
+    table[0] = b't';
+    let [first, second, third, fourth] = number.to_be_bytes();
+    let mut row = [0; 16];
+    row[0] = first;
+    row[1] = second;
+    row[2] = third;
+    row[3] = fourth;
+    RowId { table, row }
+}
+
+fn parts_of(id: &RowId) -> Parts {
+    Parts {
+        table: id.table,
+        row: Some(id.row),
+    }
+}
+
+// So many rounds, each on another row; the sum of what they found.
+fn all_rounds(work: Work, rounds: u32, tables: &mut Tables) -> Result<u64, NoMemory> {
+    let mut found: u64 = 0;
+    for round in 0..rounds {
+        found = found.wrapping_add(work.done(tables, round % 1000)?);
+    }
+    Ok(found)
+}
+
+fn main(rt: HostRuntime) -> Result<()> {
+    let timed = env::args(&rt)?.count() > 1;
+    let rounds = if timed { 20_000 } else { 1 };
+    for count in [1_000, 100_000] {
+        let mut tables = Tables::filled(rt.alloc(), count)?;
+        for work in [
+            Work::Check,
+            Work::GrantAndRelease,
+            Work::Committed,
+            Work::WriteAndRollBack,
+        ] {
+            let start = Instant::now(&rt)?;
+            let found = all_rounds(work, rounds, &mut tables)?;
+            let nanos = start.elapsed(&rt)?.as_nanos();
+            if timed {
+                let each = nanos / u128::from(rounds);
+                println!(rt;
+                    "{:>16} beside {:>6} entries: {:>6} ns",
+                    work.name(),
+                    count,
+                    each
+                )?;
+            } else {
+                println!(rt; "{} beside {} entries: {}", work.name(), count, found)?;
+            }
+        }
+    }
+    Ok(())
+}

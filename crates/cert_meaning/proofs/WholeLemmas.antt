@@ -1,0 +1,77 @@
+-- All keys of a transaction, joined one fragment after another.
+use Rattle.std.proofs.Common.{◌≡◌, ℕ, suc, ◌≤◌, ◌<◌, Bool, true, false, List, [], ◌∷◌, ◌++◌, None, Some, refl, sym, ap, subst, ◌∙◌, arith, append_assoc}
+use Rattle.std.specs.Prelude.{◌==◌, fold, length, nat_le, cond, not, T}
+use Rattle.std.proofs.lemmas.List.Sums.{fold-append}
+use Rattle.std.proofs.Math.Facts.{leb_yes, yes_leb}
+use Rattle.std.proofs.Math.Dec.{eqb→eq}
+use Rattle.finite_map.specs.FiniteMap.{empty, len}
+use Rattle.key_sets.specs.Keys.{Keys, LIMIT, union}
+use Rattle.key_sets.proofs.UnionLaws.{len-union-left, union-symm, union-empty}
+use Rattle.cert_meaning.specs.State.{Fragment, fragment_keys, whole_keys}
+use Rattle.cert_meaning.specs.Whole.{within}
+
+-- the keys of one fragment more
+pub fragment_keys-more : (front : List Fragment) (fragment : Fragment)
+    → fragment_keys (front ++ fragment ∷ []) ≡ union (fragment_keys front) fragment.keys
+fragment_keys-more front fragment = fold-append (λ all (f : Fragment). union all f.keys) empty front (fragment ∷ [])
+
+different : (b : Bool) → (b ≡ true → ⊥) → b ≡ false
+different true no_truth = absurd (no_truth refl)
+different false no_truth = refl
+
+grows : (all : Keys) (more : List Fragment) → len all ≤ len (fold (λ keys (f : Fragment). union keys f.keys) all more)
+grows all [] = omega arith
+grows all (f ∷ fs) = omega (arith, len-union-left all f.keys, grows (union all f.keys) fs)
+
+-- some fragments have at most the keys of the whole
+pub len-whole : (front more : List Fragment) (keys : Keys) → len (fragment_keys front) ≤ len (whole_keys (front ++ more) keys)
+len-whole front more keys =
+    let all = fragment_keys front in
+    let split : fragment_keys (front ++ more) ≡ fold (λ ks (f : Fragment). union ks f.keys) all more = fold-append (λ ks (f : Fragment). union ks f.keys) empty front more in
+    let more_keys : len all ≤ len (fragment_keys (front ++ more)) = subst (λ (ks : Keys). len all ≤ len ks) (sym split) (grows all more) in
+    omega (arith, more_keys, len-union-left (fragment_keys (front ++ more)) keys)
+
+-- a transaction of one write set has its keys
+pub whole_keys-alone : (keys : Keys) → whole_keys [] keys ≡ keys
+whole_keys-alone keys = union-symm empty keys ∙ union-empty keys
+
+over_false : (n : ℕ) → LIMIT < n → nat_le n LIMIT ≡ false
+over_false n over = different (nat_le n LIMIT) (λ yes. let few : n ≤ LIMIT = leb_yes (subst T (sym yes) tt) in omega (arith, over, few))
+
+-- keys that are too many are none
+pub within-over : (keys : Keys) → LIMIT < len keys → within keys ≡ None
+within-over keys over = ap (λ b. cond b (Some keys) None) (over_false (len keys) over)
+
+few_true : (b : Bool) → T b → b ≡ true
+few_true true h = refl
+few_true false h = absurd h
+
+-- keys that are not too many are those
+pub within-few : (keys : Keys) → len keys ≤ LIMIT → within keys ≡ Some keys
+within-few keys few = ap (λ b. cond b (Some keys) None) (few_true (nat_le (len keys) LIMIT) (yes_leb few))
+
+-- where the keys of some fragments are too many, those of the whole are
+pub over-whole : (front more : List Fragment) (fragment : Fragment) (keys : Keys)
+    → LIMIT < len (union (fragment_keys front) fragment.keys) → LIMIT < len (whole_keys (front ++ fragment ∷ more) keys)
+over-whole front more fragment keys over =
+    let part : len (fragment_keys (front ++ fragment ∷ [])) ≤ len (whole_keys ((front ++ fragment ∷ []) ++ more) keys) = len-whole (front ++ fragment ∷ []) more keys in
+    let size : len (fragment_keys (front ++ fragment ∷ [])) ≡ len (union (fragment_keys front) fragment.keys) = ap len (fragment_keys-more front fragment) in
+    let same : whole_keys ((front ++ fragment ∷ []) ++ more) keys ≡ whole_keys (front ++ fragment ∷ more) keys =
+    ap (λ fragments. whole_keys fragments keys) (append_assoc front (fragment ∷ []) more) in
+    let whole : len (whole_keys ((front ++ fragment ∷ []) ++ more) keys) ≡ len (whole_keys (front ++ fragment ∷ more) keys) = ap len same in
+    omega (arith, part, over, size, whole)
+
+pub not_true : (b : Bool) → not b ≡ true → b ≡ false
+not_true true is = cc
+not_true false is = refl
+
+no_fragments : (fragments : List Fragment) → length fragments == 0 ≡ true → fragments ≡ []
+no_fragments [] is = refl
+no_fragments (f ∷ fs) is = let none : suc (length fs) ≡ 0 = eqb→eq (suc (length fs)) 0 (subst T (sym is) tt) in absurd (omega (arith, none))
+
+-- the keys of a transaction of one write set are those of the set
+pub whole_keys-none : (fragments : List Fragment) (keys : Keys) → length fragments == 0 ≡ true → len keys ≤ LIMIT
+    → within (whole_keys fragments keys) ≡ Some keys
+whole_keys-none fragments keys none few =
+    ap (λ fs. within (whole_keys fs keys)) (no_fragments fragments none)
+    ∙ ap within (whole_keys-alone keys) ∙ within-few keys few

@@ -1,0 +1,105 @@
+ghost use Rattle.std.specs.Prelude.{◌≡◌, ◌++◌, ◌∷◌, [], is_some, unwrap_or, OnOk, OnErr};
+ghost use Rattle.finite_map.specs.FiniteMap.{empty, get, insert, remove, retain_keys};
+ghost use Rattle.cert_meaning.specs.State.{fragments_but};
+ghost use Rattle.cert_meaning.specs.Verdict.{greatest_touching};
+ghost use Rattle.cert_meaning.specs.Fold.{is_of};
+
+use crate::fragments::greatest_touching;
+use crate::items::{Fragment, FragmentList};
+use key_sets::KeySet;
+use std::alloc::Global;
+use std::collections::BTreeMap;
+use std::marker::Model;
+use wsrep_base::{NoMemory, TrxId};
+
+/// The open transactions, each with its passed fragments.
+#[derive(Drop)]
+pub(crate) struct OpenTable {
+    open: BTreeMap<TrxId, FragmentList>,
+}
+
+impl Model for OpenTable {
+    ghost use Rattle.std.specs.Prelude.{List};
+    ghost use Rattle.finite_map.specs.FiniteMap.{FiniteMap, from_entries};
+    ghost use Rattle.wsrep_base.specs.Trx.{trx_cmp};
+    ghost use Rattle.cert_meaning.specs.declared.items.Fragment.{Fragment};
+
+    ghost Value = { FiniteMap trx_cmp (List Fragment) };
+
+    ghost view = { λ table. from_entries table.open.entries };
+}
+
+impl OpenTable {
+    /// No transaction. It takes no memory.
+    pub(crate) fn new(alloc: Global) -> OpenTable
+        ensures { result ≡ empty }
+    {
+        OpenTable {
+            open: BTreeMap::new(alloc),
+        }
+    }
+
+    pub(crate) fn is_open(&self, trx: TrxId) -> bool
+        ensures { result ≡ is_some (get self.now trx) }
+    {
+        self.open.contains_key(&trx)
+    }
+
+    /// The fragments of a transaction, none where it is not open.
+    pub(crate) fn fragments(&self, trx: TrxId) -> &[Fragment]
+        ensures { result.now ≡ unwrap_or (get self.now trx) [] }
+    {
+        match self.open.get(&trx) {
+            Some(fragments) => fragments.as_slice(),
+            None => &[],
+        }
+    }
+
+    /// Adds a fragment to its transaction, which then is open.
+    pub(crate) fn add(
+        &mut self,
+        alloc: Global,
+        trx: TrxId,
+        fragment: Fragment,
+    ) -> Result<(), NoMemory>
+        ensures ok { OnOk result (self.new ≡ insert self.old trx (unwrap_or (get self.old trx) [] ++ fragment ∷ [])) }
+        ensures err { OnErr result (self.new ≡ self.old) }
+    {
+        match self.open.get_mut(&trx) {
+            Some(fragments) => fragments.push(fragment),
+            None => {
+                let mut fragments = FragmentList::new(alloc);
+                fragments.push(fragment)?;
+                self.open.insert(trx, fragments)?;
+                Ok(())
+            }
+        }
+    }
+
+    /// The transaction is open no longer.
+    pub(crate) fn close(&mut self, trx: TrxId)
+        ensures { self.new ≡ remove self.old trx }
+    {
+        let _ = self.open.remove(&trx);
+    }
+
+    /// Only transactions of these members stay.
+    pub(crate) fn keep_of(&mut self, members: &[u32])
+        ensures { self.new ≡ retain_keys self.old (is_of members.now) }
+    {
+        self.open.retain(|trx, _| members.contains(&trx.member));
+    }
+
+    /// The greatest fragment of another transaction whose keys touch.
+    pub(crate) fn held_by(&self, trx: TrxId, keys: &KeySet) -> Option<u64>
+        ensures { result ≡ greatest_touching (fragments_but self.now trx) keys.now }
+    {
+        let mut greatest = None;
+        for (other, fragments) in &self.open {
+            if *other != trx {
+                greatest = greatest_touching(greatest, fragments.as_slice(), keys);
+            }
+        }
+        greatest
+    }
+}

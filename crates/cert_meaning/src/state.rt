@@ -1,0 +1,99 @@
+ghost use Rattle.std.specs.Prelude.{◌≡◌, IfOk};
+ghost use Rattle.std.specs.Option.{option_copied};
+ghost use Rattle.cert_meaning.specs.State.{no_events, commit_numbered};
+ghost use Rattle.cert_meaning.specs.Verdict.{held_by};
+
+mod step;
+mod verdict;
+
+use crate::items::CommitItem;
+use crate::members::Members;
+use crate::open_table::OpenTable;
+use crate::row_table::RowTable;
+use key_sets::KeySet;
+use std::alloc::Global;
+use std::marker::Model;
+use wsrep_base::{NoMemory, TrxId};
+
+/// The state that an order of events leads to.
+#[derive(Drop)]
+pub struct FoldState {
+    number: u64,
+    floor: u64,
+    version: u32,
+    members: Members,
+    rows: RowTable,
+    commits: Vec<CommitItem>,
+    open_trx: OpenTable,
+}
+
+impl Model for FoldState {
+    ghost use Rattle.cert_meaning.specs.State.{FoldState as Seen, RiseWithin};
+
+    ghost Value = { Seen };
+
+    ghost view = { λ s. record { number = s.number; floor = s.floor; version = s.version; members = s.members; rows = s.rows.rows; commits = s.commits.items; open_trx = s.open_trx } };
+
+    // The numbers of the commits rise, so that a search from the newest one ends early.
+    ghost invariant = { λ s. RiseWithin 0 s.number s.commits.items };
+}
+
+impl FoldState {
+    /// The state before the first event. It takes no memory.
+    #[tactic(auto, unfolding(crate::specs::State::no_events))]
+    pub fn empty(alloc: Global) -> Result<FoldState, NoMemory>
+        ensures state { IfOk result (λ s. s ≡ no_events) }
+        ensures number { IfOk result (λ s. s.number ≡ 0) }
+    {
+        Ok(FoldState {
+            number: 0,
+            floor: 0,
+            version: 0,
+            members: Members::new(alloc),
+            rows: RowTable::new(alloc),
+            commits: Vec::new(alloc),
+            open_trx: OpenTable::new(alloc),
+        })
+    }
+
+    /// How many events it has seen.
+    pub fn number(&self) -> u64
+        ensures { result ≡ self.now.number }
+    {
+        self.number
+    }
+
+    /// The passed commits, oldest first.
+    pub fn commits(&self) -> &[CommitItem]
+        ensures { result.now ≡ self.now.commits }
+    {
+        self.commits.as_slice()
+    }
+
+    /// The passed commit with this number. It costs the commits above the number.
+    pub fn commit_at(&self, number: u64) -> Option<&CommitItem>
+        ensures { option_copied result ≡ commit_numbered number self.now.commits }
+    {
+        for commit in self.commits.iter().rev() {
+            if commit.number == number {
+                return Some(commit);
+            }
+            if commit.number < number {
+                return None;
+            }
+        }
+        None
+    }
+
+    /// The greatest fragment of another open transaction whose keys touch.
+    #[tactic(auto, unfolding(crate::specs::Verdict::held_by))]
+    pub fn held_by(&self, trx: TrxId, keys: &KeySet) -> Option<u64>
+        ensures { result ≡ held_by self.now trx keys.now }
+    {
+        self.open_trx.held_by(trx, keys)
+    }
+
+    fn alloc(&self) -> Global {
+        *self.commits.allocator()
+    }
+}

@@ -1,0 +1,2 @@
+pub mod KeyedOps
+pub mod Live

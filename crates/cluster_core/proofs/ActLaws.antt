@@ -1,0 +1,350 @@
+-- What a step of one node does to the cluster, from what it does to the node's seat.
+use Rattle.std.proofs.Common.{◌≡◌, ℕ, zero, suc, ◌+◌, ◌-◌, Bool, true, false, cond, List, [], ◌∷◌, ◌++◌, length, None, Some, refl, sym, ap, subst, ◌∙◌, arith, append-nil, length-append, set, get_or, min, ◌≤◌, ◌<◌, Result, Ok, Err}
+use Rattle.std.specs.Prelude.{slice_get, map, IfOk, OnErr}
+use Rattle.std.specs.List.{AllByRecursion}
+use Rattle.finite_map.specs.FiniteMap.{get}
+use Rattle.order_event.specs.declared.event.Event.{Event}
+use Rattle.order_event.specs.declared.event.Message.{Message}
+use Rattle.order_event.specs.declared.event.Message.TheVariants as message
+use Rattle.order_event.specs.declared.step.Act.{Act}
+use Rattle.order_event.specs.declared.step.Act.TheVariants as act
+use Rattle.order_event.specs.declared.step.Answer.{Answer}
+use Rattle.order_event.specs.declared.step.Step.{Step}
+use Rattle.order_event.specs.declared.step.Answer.TheVariants as answer
+use Rattle.order_event.specs.Spelling.{HasFewMembers}
+use Rattle.group_order.specs.Order.{event_at, event_of, start_order, up_to}
+use Rattle.node_meaning.specs.Node.{ModelNode, is_connected, start_node}
+use Rattle.node_meaning.specs.Steps.{first_sent, sent_out, take_event, take_step, node_step}
+use Rattle.node_meaning.specs.Cluster.{ModelCluster, set_at, order_first, with_node, step_of, step_at, cluster_step, orders_at, orders_of, node_orders, will_order, start_cluster}
+use Rattle.node_meaning.proofs.EntryLaws.{some_is}
+use Rattle.node_parts.specs.Queue.{oldest}
+use Rattle.node_core.specs.declared.node.Node.{Node}
+use Rattle.node_core.specs.Answers.{is_started}
+use Rattle.node_core.specs.Stands.{DoneOver, plain_of, quietly}
+use Rattle.cluster_core.specs.declared.seat.Seat.{Seat}
+use Rattle.cluster_core.specs.Seated.{IsSeated, SeatDone, SeatDoes, SeatTakes, SeatUnchanged, work_of}
+use Rattle.cluster_core.specs.Acts.{IsKept, AreKept, Goes, Acted, Failed, Left, Runs, cluster_of, nodes_of}
+use Rattle.cluster_core.specs.Steps.{LeftBy, after_acts}
+use Rattle.cluster_core.proofs.SeatLaws.{seated_grow}
+
+-- ---- lists
+pub set_at_same : {A : Type 0} (xs : List A) (i : ℕ) (x : A) → slice_get xs i ≡ Some x → set_at xs i x ≡ xs
+set_at_same [] i x there = refl
+set_at_same (y ∷ ys) zero x there = ap (λ z. z ∷ ys) (sym (some_is y x there))
+set_at_same (y ∷ ys) (suc i) x there = ap (λ zs. y ∷ zs) (set_at_same ys i x there)
+
+all_append : {A : Type 0} (P : A → Type 0) (xs ys : List A) → AllByRecursion P xs → AllByRecursion P ys → AllByRecursion P (xs ++ ys)
+all_append P [] ys here there = there
+all_append P (x ∷ xs) ys here there = (here.0, all_append P xs ys here.1 there)
+
+pub all_at : {A : Type 0} (P : A → Type 0) (xs : List A) (i : ℕ) (x : A) → AllByRecursion P xs → slice_get xs i ≡ Some x → P x
+all_at P [] i x all there = absurd cc
+all_at P (y ∷ ys) zero x all there = subst P (some_is y x there) all.0
+all_at P (y ∷ ys) (suc i) x all there = all_at P ys i x all.1 there
+
+few_of : (member : ℕ) (m : Message) → HasFewMembers (event_of member m)
+few_of member (message.Write body) = tt
+few_of member (message.Report number) = tt
+
+-- ---- where the order stays
+pub goes_same : (before now : List Event) (new : Seat) → now ≡ before → IsKept before new → Goes before now new
+goes_same before now new is kept = record {
+  more = [];
+  grown = is ∙ sym (append-nil before);
+  kept = subst (λ order. IsKept order new) (sym is) kept;
+}
+
+module _ (a : Act) (order : List Event) (old : Seat) (kept : IsKept order old) where
+  pub acted_alone : (new : Seat) (answer : Answer) → SeatDone order (λ n. node_step order n a) old new answer
+      → ((c : ModelCluster) (i : ℕ) (n : ModelNode) → step_of c i n a ≡ with_node c i (node_step c.order n a))
+      → Acted a order order old new answer
+  acted_alone new answer d by_itself = record {
+    same = λ nodes i there.
+        ap (λ (r : Answer × ModelNode). (r.0, cluster_of order (set_at nodes i r.1))) d.same
+        ∙ sym (by_itself (cluster_of order nodes) i (plain_of old.node));
+    goes = goes_same order order new refl (record { few = kept.few; seated = d.seated });
+  }
+
+  pub acted_does : (new : Seat) (answer : Answer) → SeatDoes (λ order n. node_step order n a) old new answer
+      → ((c : ModelCluster) (i : ℕ) (n : ModelNode) → step_of c i n a ≡ with_node c i (node_step c.order n a))
+      → Acted a order order old new answer
+  acted_does new answer does by_itself = acted_alone new answer (does order kept.seated) by_itself
+
+  pub acted_nothing : ((c : ModelCluster) (i : ℕ) (n : ModelNode) → step_of c i n a ≡ (answer.Nothing, c)) → Acted a order order old old answer.Nothing
+  acted_nothing nothing = record {
+    same = λ nodes i there.
+        ap (λ ns. (answer.Nothing, cluster_of order ns)) (set_at_same nodes i (plain_of old.node) there)
+        ∙ sym (nothing (cluster_of order nodes) i (plain_of old.node));
+    goes = goes_same order order old refl kept;
+  }
+
+  pub failed_alone : (new : Seat) → SeatUnchanged old new
+      → ((order ≡ order) × (plain_of new.node ≡ plain_of old.node) → Left a order order (plain_of old.node) (plain_of new.node))
+      → Failed a order order old new
+  failed_alone new u left = record {
+    left = left (refl, u.plain);
+    goes = goes_same order order new refl (record { few = kept.few; seated = u.seated order kept.seated });
+  }
+
+-- ---- ordering
+none_first : (order : List Event) (nodes : List ModelNode) (i : ℕ) (n : ModelNode) (queue : List Message) → oldest queue ≡ None
+    → slice_get nodes i ≡ Some n → (answer.Nothing, cluster_of order (set_at nodes i n)) ≡ order_first (cluster_of order nodes) i n queue
+none_first order nodes i n [] none there = ap (λ ns. (answer.Nothing, cluster_of order ns)) (set_at_same nodes i n there)
+none_first order nodes i n (m ∷ ms) none there = absurd cc
+
+pub order_none : (order : List Event) (seat : Seat) → oldest seat.node.queue.outbox ≡ None → IsKept order seat
+    → Acted act.Order order order seat seat answer.Nothing
+order_none order seat none kept = record {
+  same = λ nodes i there. none_first order nodes i (plain_of seat.node) seat.node.queue.outbox none there;
+  goes = goes_same order order seat refl kept;
+}
+
+sent_units : (n : ModelNode) (queue : List Message) → (first_sent n queue).units ≡ n.units
+sent_units n [] = refl
+sent_units n (m ∷ ms) = refl
+
+some_first : (before now : List Event) (nodes : List ModelNode) (i number : ℕ) (n after : ModelNode) (m : Message) (queue : List Message)
+    → oldest queue ≡ Some m → now ≡ before ++ event_of n.at.member m ∷ [] → number ≡ length now → after ≡ sent_out n
+    → (answer.Ordered number, cluster_of now (set_at nodes i after)) ≡ order_first (cluster_of before nodes) i n queue
+some_first before now nodes i number n after m [] first is counts sent = absurd cc
+some_first before now nodes i number n after m (x ∷ xs) first is counts sent =
+    let order : now ≡ before ++ event_of n.at.member x ∷ [] = is ∙ ap (λ k. before ++ event_of n.at.member k ∷ []) (sym (some_is x m first)) in
+    let long : number ≡ length before + 1 = counts ∙ ap length order ∙ length-append before (event_of n.at.member x ∷ []) in
+    ap (λ k. (answer.Ordered k, cluster_of now (set_at nodes i after))) long
+    ∙ ap (λ o. (answer.Ordered (length before + 1), cluster_of o (set_at nodes i after))) order
+    ∙ ap (λ k. (answer.Ordered (length before + 1), cluster_of (before ++ event_of n.at.member x ∷ []) (set_at nodes i k))) sent
+
+pub order_done : (before now : List Event) (old : Seat) (node : Node) (m : Message) (number : ℕ) → oldest old.node.queue.outbox ≡ Some m
+    → now ≡ before ++ event_of old.node.at.member m ∷ [] → number ≡ length now → DoneOver before (quietly sent_out before) old.node node tt
+    → IsKept before old → Acted act.Order before now old (record old { node = node }) (answer.Ordered number)
+order_done before now old node m number first is counts d kept =
+    let new : Seat = record old { node = node } in
+    let sent : plain_of node ≡ sent_out (plain_of old.node) = ap (λ (r : Unit {0} × ModelNode). r.1) d.same in
+    let seated : IsSeated before new = record {
+      stands = d.stands;
+      work = λ k. kept.seated.work k
+          ∙ ap (λ us. work_of before k (is_started (get us k))) (sym (sent_units (plain_of old.node) old.node.queue.outbox))
+          ∙ ap (λ (n : ModelNode). work_of before k (is_started (get n.units k))) (sym sent);
+    } in
+    record {
+      same = λ nodes i there. some_first before now nodes i number (plain_of old.node) (plain_of node) m old.node.queue.outbox first is counts sent;
+      goes = record {
+        more = event_of old.node.at.member m ∷ [];
+        grown = is;
+        kept = record {
+          few = subst (AllByRecursion HasFewMembers) (sym is) (all_append HasFewMembers before (event_of old.node.at.member m ∷ []) kept.few (few_of old.node.at.member m, tt));
+          seated = subst (λ order. IsSeated order new) (sym is) (seated_grow before (event_of old.node.at.member m ∷ []) new seated);
+        };
+      };
+    }
+
+-- ---- taking
+pub next_event : (order : List Event) (n : ℕ) → event_at order (n + 1) ≡ slice_get order n
+next_event order n = ap (event_at order) (let e : n + 1 ≡ suc n = omega arith in e)
+
+pub take_acted : (before now : List Event) (old new : Seat) (a : Answer) (e : Event) → now ≡ before
+    → Some e ≡ event_at before (old.node.at.taken + 1) → SeatTakes e old new a → IsKept before old → Acted act.Take before now old new a
+take_acted before now old new a e is there takes kept =
+    let d = takes before (sym (there ∙ next_event before old.node.at.taken)) kept.seated in
+    record {
+      same = λ nodes i at.
+          ap (λ o. (a, cluster_of o (set_at nodes i (plain_of new.node)))) is
+          ∙ ap (λ (r : Answer × ModelNode). (r.0, cluster_of before (set_at nodes i r.1))) d.same;
+      goes = goes_same before now new is (record { few = kept.few; seated = d.seated });
+    }
+
+no_choice : {A : Type 0} (b : Bool) (x : A) → x ≡ cond b x x
+no_choice true x = refl
+no_choice false x = refl
+
+take_idle : (order : List Event) (n : ModelNode) → slice_get order n.at.taken ≡ None → (answer.Nothing, n) ≡ take_step order n
+unfolding take_step
+take_idle order n none =
+    no_choice (is_connected n.at.phase) (answer.Nothing, n)
+    ∙ ap (λ o. cond (is_connected n.at.phase) (take_event n o) (answer.Nothing, n)) (sym none)
+
+pub take_nothing : (before now : List Event) (old : Seat) → now ≡ before → None ≡ event_at before (old.node.at.taken + 1) → IsKept before old
+    → Acted act.Take before now old old answer.Nothing
+take_nothing before now old is none kept = record {
+  same = λ nodes i at.
+      ap (λ o. (answer.Nothing, cluster_of o (set_at nodes i (plain_of old.node)))) is
+      ∙ ap (λ (r : Answer × ModelNode). (r.0, cluster_of before (set_at nodes i r.1)))
+      (take_idle before (plain_of old.node) (sym (none ∙ next_event before old.node.at.taken)));
+  goes = goes_same before now old is kept;
+}
+
+-- ---- the seats at their start
+map_append : {A B : Type 0} (f : A → B) (xs ys : List A) → map f (xs ++ ys) ≡ map f xs ++ map f ys
+map_append f [] ys = refl
+map_append f (x ∷ xs) ys = ap (λ zs. f x ∷ zs) (map_append f xs ys)
+
+abbrev pub SeatsTo : List ℕ → ℕ → List Seat → Type 0
+SeatsTo id k seats = (nodes_of seats ≡ map (start_node id) (up_to k)) × ((order : List Event) → AllByRecursion (IsSeated order) seats)
+
+pub no_seat : (id : List ℕ) (seats : List Seat) → seats ≡ [] → SeatsTo id 0 seats
+no_seat id seats none = subst (SeatsTo id 0) (sym none) (refl, λ order. tt)
+
+pub next_seat : (id : List ℕ) (seats now : List Seat) (seat : Seat) (k : ℕ) → now ≡ seats ++ seat ∷ []
+    → plain_of seat.node ≡ start_node id (k + 1) → ((order : List Event) → IsSeated order seat) → SeatsTo id k seats → SeatsTo id (k + 1) now
+next_seat id seats now seat k is start seated so_far =
+    let e : k + 1 ≡ suc k = omega arith in
+    subst (λ j. SeatsTo id j now) (sym e)
+    (subst (SeatsTo id (suc k)) (sym is) (
+      map_append (λ (s : Seat). plain_of s.node) seats (seat ∷ [])
+          ∙ ap (λ ns. ns ++ plain_of seat.node ∷ []) so_far.0
+          ∙ ap (λ n. map (start_node id) (up_to k) ++ n ∷ []) (start ∙ ap (start_node id) e)
+          ∙ sym (map_append (start_node id) (up_to k) (suc k ∷ [])),
+      λ order. all_append (IsSeated order) seats (seat ∷ []) (so_far.1 order) (seated order, tt),
+    ))
+
+length-up_to : (k : ℕ) → length (up_to k) ≡ k
+length-up_to zero = refl
+length-up_to (suc k) = length-append (up_to k) (suc k ∷ []) ∙ ap (λ n. n + 1) (length-up_to k) ∙ (let e : k + 1 ≡ suc k = omega arith in e)
+
+-- the first view has few members
+pub few_at_start : (nodes : ℕ) → nodes ≤ 9 → AllByRecursion HasFewMembers (start_order nodes)
+few_at_start nodes small = (omega (arith, small, length-up_to nodes), tt)
+
+-- ---- no step at all
+pub runs_none : (order : List Event) (n : ModelNode) → Runs order order n n
+unfolding after_acts
+runs_none order n = record {
+  acts = [];
+  parts = tt;
+  is = λ nodes node there. ap (cluster_of order) (set_at_same nodes (node - 1) n there);
+}
+
+pub drain_failed : (order : List Event) (seat : Seat) → IsKept order seat → Failed act.Drain order order seat seat
+drain_failed order seat kept = record { left = runs_none order (plain_of seat.node); goes = goes_same order order seat refl kept }
+
+-- ---- one seat among others
+pub set_nodes : (seats : List Seat) (i : ℕ) (seat : Seat) → nodes_of (set seats i seat) ≡ set_at (nodes_of seats) i (plain_of seat.node)
+set_nodes [] i seat = refl
+set_nodes (s ∷ ss) zero seat = refl
+set_nodes (s ∷ ss) (suc i) seat = ap (λ ns. plain_of s.node ∷ ns) (set_nodes ss i seat)
+
+pub at_nodes : (seats : List Seat) (i : ℕ) (seat : Seat) → slice_get seats i ≡ Some seat → slice_get (nodes_of seats) i ≡ Some (plain_of seat.node)
+at_nodes [] i seat there = absurd cc
+at_nodes (s ∷ ss) zero seat there = ap (λ (x : Seat). Some (plain_of x.node)) (some_is s seat there)
+at_nodes (s ∷ ss) (suc i) seat there = at_nodes ss i seat there
+
+all_grow : (before now more : List Event) (seats : List Seat) → now ≡ before ++ more → AllByRecursion (IsSeated before) seats → AllByRecursion (IsSeated now) seats
+all_grow before now more [] is all = tt
+all_grow before now more (s ∷ ss) is all =
+    (subst (λ order. IsSeated order s) (sym is) (seated_grow before more s all.0), all_grow before now more ss is all.1)
+
+all_set : {A : Type 0} (P : A → Type 0) (xs : List A) (i : ℕ) (x : A) → AllByRecursion P xs → P x → AllByRecursion P (set xs i x)
+all_set P [] i x all it = tt
+all_set P (y ∷ ys) zero x all it = (it, all.1)
+all_set P (y ∷ ys) (suc i) x all it = (all.0, all_set P ys i x all.1 it)
+
+pub kept_set : (before now : List Event) (seats : List Seat) (i : ℕ) (seat : Seat) → Goes before now seat → AreKept before seats → AreKept now (set seats i seat)
+kept_set before now seats i seat goes kept = record {
+  few = goes.kept.few;
+  seated = all_set (IsSeated now) seats i seat (all_grow before now goes.more seats goes.grown kept.seated) goes.kept.seated;
+}
+
+left_same : (node : ℕ) (before now : List Event) (nodes : List ModelNode) (old new : ModelNode) → slice_get nodes (node - 1) ≡ Some old
+    → (now ≡ before) × (new ≡ old) → cluster_of now (set_at nodes (node - 1) new) ≡ cluster_of before nodes
+left_same node before now nodes old new there left =
+    ap (λ o. cluster_of o (set_at nodes (node - 1) new)) left.0
+    ∙ ap (λ n. cluster_of before (set_at nodes (node - 1) n)) left.1
+    ∙ ap (cluster_of before) (set_at_same nodes (node - 1) old there)
+
+-- what a step that was not done left
+left_by : (a : Act) (node : ℕ) (before now : List Event) (nodes : List ModelNode) (old new : ModelNode) → slice_get nodes (node - 1) ≡ Some old
+    → Left a before now old new → LeftBy a node (cluster_of before nodes) (cluster_of now (set_at nodes (node - 1) new))
+left_by act.Drain node before now nodes old new there left = record { acts = left.acts; parts = left.parts; is = left.is nodes node there }
+left_by act.Order node before now nodes old new there left = left_same node before now nodes old new there left
+left_by act.Take node before now nodes old new there left = left_same node before now nodes old new there left
+left_by act.Certify node before now nodes old new there left = left_same node before now nodes old new there left
+left_by (act.Start number) node before now nodes old new there left = left_same node before now nodes old new there left
+left_by (act.Finish number) node before now nodes old new there left = left_same node before now nodes old new there left
+left_by act.Advance node before now nodes old new there left = left_same node before now nodes old new there left
+left_by (act.Client session call) node before now nodes old new there left = left_same node before now nodes old new there left
+left_by act.Report node before now nodes old new there left = left_same node before now nodes old new there left
+left_by act.Status node before now nodes old new there left = left_same node before now nodes old new there left
+left_by act.Leave node before now nodes old new there left = left_same node before now nodes old new there left
+left_by (act.Join fresh) node before now nodes old new there left = left_same node before now nodes old new there left
+left_by (act.Transfer donor) node before now nodes old new there left = left_same node before now nodes old new there left
+
+module _ (a : Act) (before now : List Event) (seats : List Seat) (i : ℕ) (old new : Seat) (there : slice_get seats i ≡ Some old) where
+  pub step_done : (x : Answer) → Acted a before now old new x
+      → (x, cluster_of now (nodes_of (set seats i new))) ≡ step_at (cluster_of before (nodes_of seats)) i (slice_get (nodes_of seats) i) a
+  step_done x acted =
+      ap (λ ns. (x, cluster_of now ns)) (set_nodes seats i new)
+      ∙ acted.same (nodes_of seats) i (at_nodes seats i old there)
+      ∙ ap (λ o. step_at (cluster_of before (nodes_of seats)) i o a) (sym (at_nodes seats i old there))
+
+  pub step_failed : Failed a before now old new
+      → LeftBy a (i + 1) (cluster_of before (nodes_of seats)) (cluster_of now (nodes_of (set seats i new)))
+  step_failed failed =
+      let e : (i + 1) - 1 ≡ i = omega arith in
+      subst (λ ns. LeftBy a (i + 1) (cluster_of before (nodes_of seats)) (cluster_of now ns)) (sym (set_nodes seats i new))
+      (subst (λ k. LeftBy a (i + 1) (cluster_of before (nodes_of seats)) (cluster_of now (set_at (nodes_of seats) k (plain_of new.node)))) e
+      (left_by a (i + 1) before now (nodes_of seats) (plain_of old.node) (plain_of new.node)
+      (ap (slice_get (nodes_of seats)) e ∙ at_nodes seats i old there) failed.left))
+
+-- ---- answers
+pub if_ok : {A E : Type 0} (P Q : A → Type 0) (r : Result A E) → ((x : A) → P x → Q x) → IfOk r P → IfOk r Q
+if_ok P Q (Ok x) f p = f x p
+if_ok P Q (Err e) f p = tt
+
+pub if_err : {A E : Type 0} (P Q : Type 0) (r : Result A E) → (P → Q) → OnErr r P → OnErr r Q
+if_err P Q (Ok x) f p = tt
+if_err P Q (Err e) f p = f p
+
+pub goes_by : {A E : Type 0} (a : Act) (before now : List Event) (old new : Seat) (P : A → Type 0) (r : Result A E)
+    → ((x : A) → P x → Goes before now new) → IfOk r P → OnErr r (Failed a before now old new) → Goes before now new
+goes_by a before now old new P (Ok x) f ok err = f x ok
+goes_by a before now old new P (Err e) f ok err = err.goes
+
+-- the item at a place within a list
+pub item_there : {A : Type 0} (xs : List A) (i : ℕ) (x : A) → i < length xs → x ≡ get_or xs i x → slice_get xs i ≡ Some x
+item_there [] i x below is = absurd (omega (arith, below))
+item_there (y ∷ ys) zero x below is = ap Some (sym is)
+item_there (y ∷ ys) (suc i) x below is = item_there ys i x (omega (arith, below)) is
+
+-- a step is the model's step of the node with its number
+pub cluster_done : (c d : ModelCluster) (at : ℕ) (step : Step) (r : Answer × ModelCluster) → c ≡ d → at ≡ step.node - 1
+    → r ≡ step_at c at (slice_get c.nodes at) step.act → r ≡ cluster_step d step
+unfolding cluster_step
+cluster_done c d at step r same is e =
+    e ∙ ap (λ (k : ModelCluster). step_at k at (slice_get k.nodes at) step.act) same
+    ∙ ap (λ i. step_at d i (slice_get d.nodes i) step.act) is
+
+pub first_counts : (queue : List Message) → min (length queue) 1 ≡ orders_of queue
+first_counts [] = omega arith
+first_counts (m ∷ ms) = omega arith
+
+length-nodes : (seats : List Seat) → length (nodes_of seats) ≡ length seats
+length-nodes [] = refl
+length-nodes (s ∷ ss) = ap suc (length-nodes ss)
+
+-- how many events the step of a seat is going to order
+pub will_is : (c : ModelCluster) (seats : List Seat) (at : ℕ) (step : Step) (seat : Seat) (k : ℕ) → nodes_of seats ≡ c.nodes
+    → at ≡ step.node - 1 → (1 ≤ step.node) × (step.node ≤ length c.nodes) → seat ≡ get_or seats at seat
+    → k ≡ node_orders step.act (plain_of seat.node) → k ≡ will_order c step
+will_is c seats at step seat k nodes is fits item counts =
+    let long : length seats ≡ length c.nodes = sym (length-nodes seats) ∙ ap length nodes in
+    let there = item_there seats at seat (omega (arith, long, is, fits.0, fits.1)) item in
+    counts
+    ∙ ap (λ o. orders_at o step.act) (sym (at_nodes seats at seat there))
+    ∙ ap (λ i. orders_at (slice_get (nodes_of seats) i) step.act) is
+    ∙ ap (λ ns. orders_at (slice_get ns (step.node - 1)) step.act) nodes
+
+-- ---- the cluster at its start
+pub kept_start : (order : List Event) (nodes : ℕ) (seats : List Seat) → order ≡ start_order nodes → nodes ≤ 9
+    → AllByRecursion (IsSeated order) seats → AreKept order seats
+kept_start order nodes seats is small seated = record {
+  few = subst (AllByRecursion HasFewMembers) (sym is) (few_at_start nodes small);
+  seated = seated;
+}
+
+pub cluster_start : (order : List Event) (nodes : ℕ) (id : List ℕ) (seats : List Seat) → order ≡ start_order nodes
+    → nodes_of seats ≡ map (start_node id) (up_to nodes) → cluster_of order (nodes_of seats) ≡ start_cluster nodes id
+unfolding start_cluster
+cluster_start order nodes id seats is starts = ap (λ o. cluster_of o (nodes_of seats)) is ∙ ap (cluster_of (start_order nodes)) starts
+
+pub same_count : (a b : ℕ) → a ≤ b → b ≤ a → a ≡ b
+same_count a b below above = omega (arith, below, above)

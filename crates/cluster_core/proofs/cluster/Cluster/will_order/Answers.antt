@@ -1,0 +1,20 @@
+-- The outbox of the seat with the step's number is the model's.
+use Rattle.std.proofs.Common.{ap, sym, ◌∙◌, min, ◌-◌}
+use Rattle.node_meaning.specs.Cluster.{node_orders}
+use Rattle.node_core.specs.Stands.{plain_of}
+use Rattle.cluster_core.specs.State.{ClusterState}
+use Rattle.cluster_core.proofs.ActLaws.{will_is, first_counts}
+use Rattle.cluster_core.proofs.cluster.Cluster.will_order.Goals as goal
+
+pub returns-in-Order : goal.returns-in-Order
+returns-in-Order g c =
+    will_is c.args.self.now.model c.self.inside.seats.items _ c.args.step.now c.index.result.now c.min.result
+    (ap (λ (v : ClusterState). v.model.nodes) c.self.view_is) (ap (λ k. k - 1) c.from.ensures) c.requires c.index.ensures
+    (c.min.ensures ∙ ap (λ k. min k 1) c.place-outbox.ensures.outbox ∙ first_counts c.index.result.now.node.queue.outbox
+    ∙ ap (λ a. node_orders a (plain_of c.index.result.now.node)) (sym c.in-Order.is))
+
+pub returns-in-Drain : goal.returns-in-Drain
+returns-in-Drain g c =
+    will_is c.args.self.now.model c.self.inside.seats.items _ c.args.step.now c.index.result.now c.place-outbox.result.outbox
+    (ap (λ (v : ClusterState). v.model.nodes) c.self.view_is) (ap (λ k. k - 1) c.from.ensures) c.requires c.index.ensures
+    (c.place-outbox.ensures.outbox ∙ ap (λ a. node_orders a (plain_of c.index.result.now.node)) (sym c.in-Drain.is))

@@ -1,0 +1,18 @@
+-- One more message is ordered.
+use Rattle.std.proofs.Common.{refl, ◌∙◌}
+use Rattle.cluster_core.proofs.DrainLaws.{sent_none, sent_more, sent_short}
+use Rattle.cluster_core.proofs.drain.order_all.Goals as goal
+
+pub loop-init : goal.loop-init
+loop-init g c = (refl, sent_none (g.G.Group.order c.args.group.now) c.args.seat.now c.requires.kept)
+
+pub order_first-requires-clause-events : goal.order_first-requires-clause-events
+order_first-requires-clause-events g c =
+    sent_short c.loop.counter (g.G.Group.order c.args.group.now) (g.G.Group.order c.loop.group) c.args.seat.now c.loop.seat c.loop.invariant.1 c.requires.events
+
+pub loop-preserved : goal.loop-preserved
+loop-preserved g c = (
+  c.in_ok-order_first.ensures.cause ∙ c.loop.invariant.0,
+  sent_more c.loop.counter (g.G.Group.order c.args.group.now) (g.G.Group.order c.loop.group) (g.G.Group.order c.order_first.new.group)
+      c.args.seat.now c.loop.seat c.order_first.new.seat c.in_ok-order_first.field-0 c.loop.invariant.1 c.in_ok-order_first.ensures.ok,
+)

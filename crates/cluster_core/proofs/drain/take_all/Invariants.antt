@@ -1,0 +1,10 @@
+use Rattle.std.proofs.Common.{◌≡◌}
+use Rattle.cluster_core.specs.Drain.{Part, take_next}
+use Rattle.cluster_core.proofs.drain.take_all.Given as goal
+
+-- the order stays, and so many events were taken
+abbrev pub invariant-loop : goal.invariant-loop
+invariant-loop g l =
+    (g.G.Group.order l.group ≡ g.G.Group.order l.fn.group)
+    × (g.G.Group.faults l.group ≡ g.G.Group.faults l.fn.group)
+    × Part (g.G.Group.order l.fn.group) (take_next (g.G.Group.order l.fn.group)) l.counter l.fn.seat l.seat

@@ -1,0 +1,59 @@
+-- what one node of a cluster and its group are after a step of that node
+use Rattle.std.specs.Prelude.{◌≡◌, ℕ, ◌-◌, List, ◌++◌, map, slice_get, Some, IsTrue}
+use Rattle.std.specs.List.{AllByRecursion}
+use Rattle.order_event.specs.declared.event.Event.{Event}
+use Rattle.order_event.specs.declared.step.Act.{Act}
+use Rattle.order_event.specs.declared.step.Act.TheVariants as act
+use Rattle.order_event.specs.declared.step.Answer.{Answer}
+use Rattle.order_event.specs.Spelling.{HasFewMembers}
+use Rattle.node_meaning.specs.Node.{ModelNode}
+use Rattle.node_meaning.specs.Cluster.{ModelCluster, set_at, step_of}
+use Rattle.node_core.specs.Stands.{plain_of}
+use Rattle.cluster_core.specs.declared.seat.Seat.{Seat}
+use Rattle.cluster_core.specs.Seated.{IsSeated}
+use Rattle.cluster_core.specs.Steps.{is_part, after_acts}
+
+-- the seat stands over the order, and the members of each view can be counted
+pub record IsKept (order : List Event) (seat : Seat) : Type 0 where
+  pub few : AllByRecursion HasFewMembers order
+  pub seated : IsSeated order seat
+
+-- the order grew, and the seat stands over it
+pub record Goes (before now : List Event) (new : Seat) : Type 0 where
+  pub more : List Event
+  pub grown : now ≡ before ++ more
+  pub kept : IsKept now new
+
+abbrev pub cluster_of : List Event → List ModelNode → ModelCluster
+cluster_of order nodes = record { order = order; nodes = nodes }
+
+-- a step of the seat is the model's step in each cluster in which its node stands
+pub record Acted (a : Act) (before now : List Event) (old new : Seat) (answer : Answer) : Type 0 where
+  pub same : (nodes : List ModelNode) (i : ℕ) → slice_get nodes i ≡ Some (plain_of old.node)
+      → (answer, cluster_of now (set_at nodes i (plain_of new.node))) ≡ step_of (cluster_of before nodes) i (plain_of old.node) a
+  pub goes : Goes before now new
+
+-- some of the steps that a drain is made of lead from the one to the other
+pub record Runs (before now : List Event) (old new : ModelNode) : Type 0 where
+  pub acts : List Act
+  pub parts : AllByRecursion (λ a. IsTrue (is_part a)) acts
+  pub is : (nodes : List ModelNode) (node : ℕ) → slice_get nodes (node - 1) ≡ Some old
+      → cluster_of now (set_at nodes (node - 1) new) ≡ after_acts (cluster_of before nodes) node acts
+
+-- all is as it was, and for a drain as some of its steps leave it
+abbrev pub Left : Act → List Event → List Event → ModelNode → ModelNode → Type 0
+Left act.Drain before now old new = Runs before now old new
+Left other before now old new = (now ≡ before) × (new ≡ old)
+
+-- a step that could not be done
+pub record Failed (a : Act) (before now : List Event) (old new : Seat) : Type 0 where
+  pub left : Left a before now (plain_of old.node) (plain_of new.node)
+  pub goes : Goes before now new
+
+-- all seats of a cluster stand over the order
+pub record AreKept (order : List Event) (seats : List Seat) : Type 0 where
+  pub few : AllByRecursion HasFewMembers order
+  pub seated : AllByRecursion (IsSeated order) seats
+
+abbrev pub nodes_of : List Seat → List ModelNode
+nodes_of seats = map (λ (s : Seat). plain_of s.node) seats

@@ -1,0 +1,161 @@
+ghost use Rattle.std.specs.Prelude.{◌≡◌, ◌≢◌, ◌≤◌, ◌<◌, ◌^◌, List, IfOk, OnErr, IsTrue};
+
+use apply_unit::Done;
+use node_core::{Advanced, Certified, Node, Started, Taken};
+use order_event::{Answer, Event};
+use row_model::Call;
+use std::alloc::Global;
+use std::collections::HashMap;
+use wsrep_base::{NoMemory, StateId};
+
+/// A node of a cluster, and what the work of its started units gives.
+#[derive(Drop)]
+pub struct Seat {
+    pub(crate) node: Node,
+    // By the numbers of the units; an entry exactly where a unit is started and not finished.
+    pub(crate) done: HashMap<u64, Done>,
+}
+
+impl Seat {
+    ghost use Rattle.wsrep_base.specs.StateId.{nil_id};
+    ghost use Rattle.row_model.specs.Names.{call_fits};
+    ghost use Rattle.order_event.specs.declared.event.Event.{Event as Ordered};
+    ghost use Rattle.order_event.specs.declared.step.Act.TheVariants as act;
+    ghost use Rattle.order_event.specs.Spelling.{HasFewMembers};
+    ghost use Rattle.node_meaning.specs.Node.{start_node};
+    ghost use Rattle.node_meaning.specs.Steps.{node_step};
+    ghost use Rattle.node_core.specs.Stands.{plain_of};
+    ghost use Rattle.cluster_core.specs.State.{CanGoOn};
+    ghost use Rattle.cluster_core.specs.Seated.{IsSeated, IsSomewhere, SeatDoes, SeatTakes, SeatUnchanged};
+
+    /// A node at its start, with no unit.
+    pub fn new(alloc: Global, id: &StateId, member: u32, gcache: u64) -> Result<Seat, NoMemory>
+        requires id { id.now ≢ nil_id }
+        requires ring { gcache ≤ 16_777_216 }
+        ensures start { IfOk result (λ seat. plain_of seat.node ≡ start_node id.now member) }
+        ensures seated { IfOk result (λ seat. (order : List Ordered) → IsSeated order seat) }
+    {
+        Ok(Seat {
+            node: Node::new(alloc, id, member, gcache)?,
+            done: HashMap::new(alloc),
+        })
+    }
+
+    /// What a session's call is answered.
+    pub fn client(&mut self, session: u8, call: &Call) -> Result<Answer, NoMemory>
+        requires seated { IsSomewhere self.old }
+        requires session { (1 ≤ session) × (session ≤ 32) }
+        requires names { IsTrue (call_fits call.now) }
+        requires counts { CanGoOn (plain_of self.old.node) }
+        ensures ok { IfOk result (SeatDoes (λ order n. node_step order n (act.Client session call.now)) self.old self.new) }
+        ensures err { OnErr result (SeatUnchanged self.old self.new) }
+    {
+        let reply = self.node.client(session, call)?;
+        Ok(Answer::Client(reply))
+    }
+
+    /// The next event of the order is taken.
+    pub fn take(&mut self, event: &Event) -> Result<Answer, NoMemory>
+        requires seated { IsSomewhere self.old }
+        requires number { self.old.node.at.taken < 2 ^ 63 }
+        requires members { HasFewMembers event.now }
+        ensures ok { IfOk result (SeatTakes event.now self.old self.new) }
+        ensures err { OnErr result (SeatUnchanged self.old self.new) }
+    {
+        let taken = self.node.take(event)?;
+        Ok(taken_answer(taken))
+    }
+
+    /// The next event that was taken is certified.
+    pub fn certify(&mut self) -> Result<Answer, NoMemory>
+        requires seated { IsSomewhere self.old }
+        ensures ok { IfOk result (SeatDoes (λ order n. node_step order n act.Certify) self.old self.new) }
+        ensures err { OnErr result (SeatUnchanged self.old self.new) }
+    {
+        let certified = self.node.certify()?;
+        Ok(certified_answer(certified))
+    }
+
+    /// The unit of the commit with this number is started, and its work done.
+    pub fn start(&mut self, number: u64) -> Result<Answer, NoMemory>
+        requires seated { IsSomewhere self.old }
+        ensures ok { IfOk result (SeatDoes (λ order n. node_step order n (act.Start number)) self.old self.new) }
+        ensures err { OnErr result (SeatUnchanged self.old self.new) }
+    {
+        self.done.reserve(1)?;
+        let started = self.node.start(number)?;
+        Ok(keep(&mut self.done, number, started))
+    }
+
+    /// The work of the unit with this number is given to the node.
+    pub fn finish(&mut self, number: u64) -> Answer
+        requires seated { IsSomewhere self.old }
+        ensures { SeatDoes (λ order n. node_step order n (act.Finish number)) self.old self.new result }
+    {
+        let Some(done) = self.done.remove(&number) else {
+            return Answer::NoUnit(number);
+        };
+        match self.node.finish(done) {
+            Ok(number) => Answer::Finished(number),
+            Err(_) => Answer::NoUnit(number),
+        }
+    }
+
+    /// The next number that was certified is committed.
+    pub fn advance(&mut self) -> Answer
+        requires seated { IsSomewhere self.old }
+        ensures { SeatDoes (λ order n. node_step order n act.Advance) self.old self.new result }
+    {
+        advanced_answer(self.node.advance())
+    }
+}
+
+ghost use Rattle.std.specs.HashMap.{spare};
+ghost use Rattle.node_core.specs.Answers.{taken_answer, certified_answer, started_answer, advanced_answer};
+ghost use Rattle.cluster_core.specs.Seated.{KeepsTask};
+
+fn taken_answer(taken: Taken) -> Answer
+    ensures { result ≡ taken_answer taken }
+{
+    match taken {
+        Taken::Took(number) => Answer::Took(number),
+        Taken::Split(_) => Answer::Split,
+        Taken::Away => Answer::Nothing,
+    }
+}
+
+fn certified_answer(certified: Certified) -> Answer
+    ensures { result ≡ certified_answer certified }
+{
+    match certified {
+        Certified::Judged(number, judged) => Answer::Judged(number, judged),
+        Certified::Nothing => Answer::Nothing,
+    }
+}
+
+fn advanced_answer(advanced: Advanced) -> Answer
+    ensures { result ≡ advanced_answer advanced }
+{
+    match advanced {
+        Advanced::At(number) => Answer::At(number),
+        Advanced::Nothing => Answer::Nothing,
+        Advanced::NotReady(number) => Answer::NotReady(number),
+    }
+}
+
+// The work of a unit that was started is done and kept. There is room for it.
+fn keep(done: &mut HashMap<u64, Done>, number: u64, started: Started) -> Answer
+    requires { 0 < spare done.old }
+    ensures answer { result ≡ started_answer number started }
+    ensures kept { KeepsTask number started done.old.entries done.new.entries }
+{
+    match started {
+        Started::Unit(task, victims) => {
+            let _ = done.insert(number, task.compute());
+            Answer::Started(number, victims)
+        }
+        Started::NotYet(earlier) => Answer::NotYet(earlier),
+        Started::Local => Answer::Local(number),
+        Started::NoUnit => Answer::NoUnit(number),
+    }
+}

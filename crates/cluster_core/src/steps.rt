@@ -1,0 +1,95 @@
+ghost use Rattle.std.specs.Prelude.{◌≡◌, ◌≤◌, ◌<◌, ◌+◌, length, slice_get, Some, IfOk, OnErr, IsTrue};
+ghost use Rattle.order_event.specs.declared.step.Act.TheVariants as act;
+ghost use Rattle.order_event.specs.Fits.{act_fits};
+ghost use Rattle.node_meaning.specs.Node.{ModelNode};
+ghost use Rattle.node_meaning.specs.Cluster.{node_orders, orders_at, step_at};
+ghost use Rattle.node_core.specs.Stands.{plain_of};
+ghost use Rattle.cluster_core.specs.State.{CanGoOn};
+ghost use Rattle.cluster_core.specs.Steps.{has_session, LeftBy, HasGroupCause};
+ghost use Rattle.cluster_core.specs.Acts.{IsKept, AreKept, Acted, Failed, cluster_of, nodes_of};
+
+use crate::drain::drain;
+use crate::fault::StepFault;
+use crate::seat::Seat;
+use group_order::Group;
+use order_event::{Act, Answer};
+
+/// What a step of the node at this place is answered.
+pub fn step_at<G: Group>(
+    seats: &mut Vec<Seat>,
+    at: usize,
+    group: &mut G,
+    act: &Act,
+) -> Result<Answer, StepFault>
+    requires at { at < length seats.old.items }
+    requires kept { AreKept (G.order group.old) seats.old.items }
+    requires act { has_session act.now × IsTrue (act_fits act.now) }
+    requires events { length (G.order group.old) + orders_at (slice_get (nodes_of seats.old.items) at) act.now ≤ 500_000 }
+    requires counts { (n : ModelNode) → slice_get (nodes_of seats.old.items) at ≡ Some n → CanGoOn n }
+    ensures ok { IfOk result (λ answer. (answer, cluster_of (G.order group.new) (nodes_of seats.new.items))
+        ≡ step_at (cluster_of (G.order group.old) (nodes_of seats.old.items)) at (slice_get (nodes_of seats.old.items) at) act.now) }
+    ensures err { OnErr result (LeftBy act.now (at + 1) (cluster_of (G.order group.old) (nodes_of seats.old.items))
+        (cluster_of (G.order group.new) (nodes_of seats.new.items))) }
+    ensures kept { AreKept (G.order group.new) seats.new.items }
+    ensures cause { HasGroupCause (G.faults group.old) (G.faults group.new) result }
+{
+    step_on(&mut seats[at], group, act)
+}
+
+/// What a step of the node is answered.
+pub fn step_on<G: Group>(seat: &mut Seat, group: &mut G, act: &Act) -> Result<Answer, StepFault>
+    requires kept { IsKept (G.order group.old) seat.old }
+    requires act { has_session act.now × IsTrue (act_fits act.now) }
+    requires events { length (G.order group.old) + node_orders act.now (plain_of seat.old.node) ≤ 500_000 }
+    requires counts { CanGoOn (plain_of seat.old.node) }
+    ensures ok { IfOk result (Acted act.now (G.order group.old) (G.order group.new) seat.old seat.new) }
+    ensures err { OnErr result (Failed act.now (G.order group.old) (G.order group.new) seat.old seat.new) }
+    ensures cause { HasGroupCause (G.faults group.old) (G.faults group.new) result }
+{
+    match act {
+        Act::Client(session, call) => Ok(seat.client(*session, call)?),
+        Act::Order => order_first(seat, group),
+        Act::Take => take_next(seat, group),
+        Act::Certify => Ok(seat.certify()?),
+        Act::Start(number) => Ok(seat.start(*number)?),
+        Act::Finish(number) => Ok(seat.finish(*number)),
+        Act::Advance => Ok(seat.advance()),
+        Act::Drain => drain(seat, group),
+        Act::Report => Ok(Answer::Nothing),
+        Act::Status => Ok(Answer::Nothing),
+        Act::Leave => Ok(Answer::Nothing),
+        Act::Join(_) => Ok(Answer::Nothing),
+        Act::Transfer(_) => Ok(Answer::Nothing),
+    }
+}
+
+/// The oldest message that waits takes the next number of the order.
+pub fn order_first<G: Group>(seat: &mut Seat, group: &mut G) -> Result<Answer, StepFault>
+    requires kept { IsKept (G.order group.old) seat.old }
+    requires events { length (G.order group.old) + node_orders act.Order (plain_of seat.old.node) ≤ 500_000 }
+    ensures ok { IfOk result (Acted act.Order (G.order group.old) (G.order group.new) seat.old seat.new) }
+    ensures err { OnErr result (Failed act.Order (G.order group.old) (G.order group.new) seat.old seat.new) }
+    ensures cause { HasGroupCause (G.faults group.old) (G.faults group.new) result }
+{
+    let member = seat.node.place().member;
+    let Some(message) = seat.node.first_out() else {
+        return Ok(Answer::Nothing);
+    };
+    let number = group.order(member, message)?;
+    seat.node.sent_out();
+    Ok(Answer::Ordered(number))
+}
+
+/// The next event of the order is taken, where there is one.
+pub fn take_next<G: Group>(seat: &mut Seat, group: &mut G) -> Result<Answer, StepFault>
+    requires kept { IsKept (G.order group.old) seat.old }
+    requires events { length (G.order group.old) ≤ 500_000 }
+    ensures ok { IfOk result (Acted act.Take (G.order group.old) (G.order group.new) seat.old seat.new) }
+    ensures err { OnErr result (Failed act.Take (G.order group.old) (G.order group.new) seat.old seat.new) }
+    ensures cause { HasGroupCause (G.faults group.old) (G.faults group.new) result }
+{
+    match group.event(seat.node.taken() + 1)? {
+        Some(event) => Ok(seat.take(&event)?),
+        None => Ok(Answer::Nothing),
+    }
+}

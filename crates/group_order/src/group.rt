@@ -1,0 +1,35 @@
+ghost use Rattle.std.specs.Prelude.{◌≡◌, ℕ, ◌<◌, List, [], ◌∷◌, ◌++◌, length, IfOk, OnOk, OnErr};
+ghost use Rattle.order_event.specs.declared.event.Event.{Event};
+ghost use Rattle.group_order.specs.Order.{event_at, event_of};
+ghost use Rattle.group_order.specs.Causes.{HasCause};
+
+use crate::GroupFault;
+use order_event::{Event, Message};
+
+/// A group of members that share one order of events, numbered from 1. The order only grows.
+pub trait Group: Drop {
+    /// The events that were ordered so far.
+    ghost order: { Self → List Event };
+
+    /// How often a call has failed.
+    ghost faults: { Self → ℕ };
+
+    /// How many events there are.
+    fn len(&self) -> u64
+        ensures { result ≡ length (order self.now) };
+
+    /// The event with this number. None exactly where there is none.
+    fn event(&mut self, n: u64) -> Result<Option<Event>, GroupFault>
+        ensures ok { IfOk result (λ event. event ≡ event_at (order self.old) n) }
+        ensures order { order self.new ≡ order self.old }
+        ensures cause { HasCause (faults self.old) (faults self.new) result };
+
+    /// Orders the message as that member's, behind all events, and gives its number. After a fault
+    /// the order is the same.
+    fn order(&mut self, member: u32, message: &Message) -> Result<u64, GroupFault>
+        requires { length (order self.old) < 500_000 }
+        ensures ok { OnOk result (order self.new ≡ order self.old ++ event_of member message.now ∷ []) }
+        ensures number { IfOk result (λ number. number ≡ length (order self.new)) }
+        ensures err { OnErr result (order self.new ≡ order self.old) }
+        ensures cause { HasCause (faults self.old) (faults self.new) result };
+}

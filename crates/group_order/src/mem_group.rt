@@ -1,0 +1,113 @@
+ghost use Rattle.std.specs.Prelude.{◌≡◌, ◌≤◌, IfOk};
+ghost use Rattle.group_order.specs.Order.{event_of, up_to};
+
+use crate::{Group, GroupFault};
+use order_event::{Event, EventList, MemberList, Message};
+use std::alloc::Global;
+use std::marker::Model;
+use wsrep_base::NoMemory;
+
+/// The group in memory. It never fails.
+#[derive(Drop)]
+pub struct MemGroup {
+    events: EventList,
+}
+
+impl Model for MemGroup {
+    ghost use Rattle.std.specs.Prelude.{List};
+    ghost use Rattle.order_event.specs.declared.event.Event.{Event};
+
+    ghost Value = { List Event };
+
+    ghost view = { λ group. group.events };
+}
+
+impl MemGroup {
+    ghost use Rattle.group_order.specs.Order.{start_order};
+
+    /// The group at its start: the one event is the view of version 1 with the members 1 to
+    /// `members`.
+    pub fn new(alloc: Global, members: u32) -> Result<MemGroup, NoMemory>
+        requires some { 1 ≤ members }
+        requires few { members ≤ 9 }
+        ensures order { IfOk result (λ group. ⟦<MemGroup as Group>⟧.order group ≡ start_order members) }
+        ensures faults { IfOk result (λ group. ⟦<MemGroup as Group>⟧.faults group ≡ 0) }
+    {
+        let mut events = EventList::new(alloc);
+        events.push(Event::View {
+            version: 1,
+            members: members_to(alloc, members)?,
+        })?;
+        Ok(MemGroup { events })
+    }
+}
+
+impl Group for MemGroup {
+    ghost order = { λ group. group };
+
+    ghost faults = { λ _. 0 };
+
+    fn len(&self) -> u64 {
+        self.events.len() as u64
+    }
+
+    fn event(&mut self, n: u64) -> Result<Option<Event>, GroupFault> {
+        if n == 0 || n > self.events.len() as u64 {
+            return Ok(None);
+        }
+        let at = n as usize - 1;
+        Ok(Some(copy(&self.events.as_slice()[at])?))
+    }
+
+    fn order(&mut self, member: u32, message: &Message) -> Result<u64, GroupFault> {
+        self.events.push(event_of(member, message)?)?;
+        Ok(self.events.len() as u64)
+    }
+}
+
+// The numbers from 1 to `last`.
+fn members_to(alloc: Global, last: u32) -> Result<MemberList, NoMemory>
+    ensures { IfOk result (λ members. members ≡ up_to last) }
+{
+    let mut members = MemberList::new(alloc);
+    for before in 0..last {
+        members.push(before + 1)?;
+    }
+    Ok(members)
+}
+
+// The event that a message becomes as a member's. The bytes are shared.
+fn event_of(member: u32, message: &Message) -> Result<Event, NoMemory>
+    ensures { IfOk result (λ event. event ≡ event_of member message.now) }
+{
+    Ok(match message {
+        Message::Write(body) => Event::Write {
+            member,
+            body: body.clone()?,
+        },
+        Message::Report(number) => Event::Report {
+            member,
+            number: *number,
+        },
+    })
+}
+
+// The same event. The bytes of a write set are shared.
+fn copy(event: &Event) -> Result<Event, NoMemory>
+    ensures { IfOk result (λ same. same ≡ event.now) }
+{
+    Ok(match event {
+        Event::Write { member, body } => Event::Write {
+            member: *member,
+            body: body.clone()?,
+        },
+        Event::View { version, members } => Event::View {
+            version: *version,
+            members: members.copy()?,
+        },
+        Event::Report { member, number } => Event::Report {
+            member: *member,
+            number: *number,
+        },
+    })
+}

@@ -1,0 +1,409 @@
+-- Committing the next number does what the model does.
+use Rattle.std.proofs.Common.{◌≡◌, ℕ, ◌+◌, ◌≤◌, ◌<◌, Bool, true, false, cond, List, [], length, take, drop, Option, None, Some, refl, ap, sym, subst, ◌∙◌, arith}
+use Rattle.std.specs.Prelude.{◌==◌, ◌||◌, not, is_some, is_none}
+use Rattle.std.specs.Ordering.{nat_cmp, eq_by_cmp}
+use Rattle.std.specs.Cmp.{nat_cmp_total}
+use Rattle.std.proofs.lemmas.Bool.{eqb-true, eq-eqb}
+use Rattle.finite_map.specs.FiniteMap.{FiniteMap, get, insert, remove, get-remove, same_map}
+use Rattle.row_model.specs.declared.row.RowId.{RowId}
+use Rattle.row_model.specs.declared.calls.Reply.TheVariants as reply
+use Rattle.row_model.specs.Rows.{Rows}
+use Rattle.row_model.specs.RowOrder.{row_total, row_exact}
+use Rattle.row_locks.specs.declared.holder.Holder.TheVariants.{Session, Unit as UnitHolder}
+use Rattle.order_event.specs.declared.event.Event.{Event}
+use Rattle.order_event.specs.declared.step.Answer.{Answer}
+use Rattle.order_event.specs.declared.step.Answer.TheVariants as answer
+use Rattle.apply_unit.specs.Results.{put_all}
+use Rattle.apply_unit.specs.Task.{ModelTask}
+use Rattle.cert_meaning.specs.State.{FoldState, commit_numbered}
+use Rattle.cert_meaning.specs.declared.items.CommitItem.{CommitItem}
+use Rattle.cert_meaning.specs.Fold.{state_at}
+use Rattle.client_trx.specs.declared.status.Status.{Status}
+use Rattle.client_trx.specs.declared.status.Status.TheVariants as status
+use Rattle.client_trx.specs.Live.{Live, has_locks}
+use Rattle.undo_rows.specs.RowTable.{RowTable, seen, without as without_owner}
+use Rattle.node_meaning.specs.Node.{ModelNode, ApplyUnit, rows_at, passed_at, locks_of}
+use Rattle.node_meaning.specs.declared.progress.Stage.{Stage}
+use Rattle.node_meaning.specs.declared.progress.Stage.TheVariants as stage
+use Rattle.node_meaning.specs.Steps.{is_certified_at, is_replaying_at, is_local, is_finished, committer_of, told_committed, committed_next, is_ready, advance_step}
+use Rattle.node_meaning.specs.Units.{ops_at, unit_task}
+use Rattle.node_meaning.specs.Facts.{Facts}
+use Rattle.node_meaning.proofs.EntryLaws.{less_from, left, number-exact, some_is, some_not_none, not_itself}
+use Rattle.node_meaning.proofs.PassedLaws.{numbered_within, passed-is}
+use Rattle.node_meaning.proofs.LockLaws.{locks_of-remove, locks_of-remove_unit}
+use Rattle.node_meaning.proofs.UnitLaws.{rows-event, task-unit}
+use Rattle.node_meaning.proofs.AdvanceFacts.{advance_keeps, committer_there, commits_at, rows-committer, rows-none, committer-none, not_local, unit-finished, units-local}
+use Rattle.node_parts.specs.Units.{Work, UnitTable, without, done_of, rows_of}
+use Rattle.node_core.specs.declared.node.Node.{Node}
+use Rattle.node_core.specs.Tabled.{Tabled}
+use Rattle.node_core.specs.Advancing.{AreFree, results_of, TakesUnit, IsCommitted, AfterCommitter}
+use Rattle.node_core.specs.Stands.{Stands, Tables, KeepsChanges, AreWorked, IsWorked, HasTask, DoneOver, plain_of}
+use Rattle.node_core.proofs.Tabling.{tabled_committed, tabled-ended, tabled-put, tabled-kept}
+use Rattle.node_core.proofs.CertifyCalls.{by_bool, two_ways}
+use Rattle.node_core.proofs.UnitRows.{unit_free, unit_length, rows_left}
+use Rattle.node_core.proofs.NamedRows.{put_named}
+
+-- a transaction without locks ends, and nothing of it becomes committed
+module _ (rows : Rows) (live : FiniteMap nat_cmp Live) (table after : RowTable) (tabled : Tabled rows live table) where
+  tabled-gone : (s : ℕ) (t : Live) → get live s ≡ Some t → has_locks t.status ≡ false
+      → ((id : RowId) → get after.committed id ≡ seen table s id) → after.changes ≡ without_owner table.changes s
+      → Tabled rows (remove live s) after
+  tabled-gone s t there none kept gone =
+      tabled-ended rows live table after tabled s
+      (same_map row_total row_exact after.committed table.committed (λ id.
+      kept id
+      ∙ tabled_committed rows live table tabled s id
+      (λ u is. ap (λ (l : Live). has_locks l.status) (some_is u t (sym is ∙ there)) ∙ none)
+      ∙ ap (λ r. get r id) (sym tabled.committed)))
+      gone
+
+not_some : {A : Type 0} (o : Option A) → not (is_some o) ≡ is_none o
+not_some None = refl
+not_some (Some a) = refl
+
+-- a transaction that commits at a number and has locks is Certified there
+certified_locks : (number : ℕ) (s : Status) → is_certified_at number s || is_replaying_at number s ≡ true → has_locks s ≡ true
+    → is_certified_at number s ≡ true
+certified_locks number status.Running now locks = cc
+certified_locks number status.FragmentSent now locks = cc
+certified_locks number status.CommitSent now locks = cc
+certified_locks number (status.Certified own) now locks = or_false (number == own) now
+  where
+    or_false : (b : Bool) → b || false ≡ true → b ≡ true
+    or_false true h = refl
+    or_false false h = h
+certified_locks number status.KilledSent now locks = cc
+certified_locks number (status.Replaying own) now locks = cc
+
+no_locks : (number : ℕ) (s : Status) → has_locks s ≡ false → is_certified_at number s ≡ false
+no_locks number status.Running none = cc
+no_locks number status.FragmentSent none = refl
+no_locks number status.CommitSent none = refl
+no_locks number (status.Certified own) none = cc
+no_locks number status.KilledSent none = refl
+no_locks number (status.Replaying own) none = refl
+
+-- ---- a finished unit has its task
+finished_done : (order : List Event) (number : ℕ) (units : FiniteMap nat_cmp ApplyUnit) (table : FiniteMap nat_cmp Work)
+    → (o : Option ApplyUnit) → get units number ≡ o → is_finished o ≡ true
+    → ((u : ApplyUnit) → get units number ≡ Some u → (work : Work) × (get table number ≡ Some work) × IsWorked order number u work)
+    → (u : ApplyUnit) × (get units number ≡ Some u) × (done_of (get table number) ≡ Some (unit_task order number))
+finished_done order number units table None is finished worked = cc
+finished_done order number units table (Some u) is finished worked =
+    let w = worked u is in
+    (u, is, ap done_of w.1 ∙ by_stage u.stage finished w.0 w.2.task)
+  where
+    by_stage : (s : Stage) → is_finished (Some (record { stage = s; keys = u.keys })) ≡ true → (work : Work) → HasTask order number work s
+        → work.done ≡ Some (unit_task order number)
+    by_stage stage.Started h work has = cc
+    by_stage stage.Finished h work has = has
+
+no_results : (o : Option ModelTask) → is_some o ≡ false → results_of o ≡ []
+no_results None none = refl
+no_results (Some task) none = cc
+
+module _ (order : List Event) (old : Node) (stands : Stands order old) where
+  abbrev next : ℕ
+  next = old.at.committed + 1
+
+  pub advance_nothing : old.at.committed ≡ old.at.certified → DoneOver order (λ n. advance_step order n) old old answer.Nothing
+  unfolding advance_step
+  advance_nothing all = record {
+    same = sym (ap (λ b. cond {A = Answer × ModelNode} b (answer.Nothing, plain_of old)
+        (cond {A = Answer × ModelNode} (is_ready order (plain_of old) next) (answer.At next, committed_next (plain_of old) next) (answer.NotReady next, plain_of old)))
+        (eq-eqb old.at.committed old.at.certified all));
+    stands = stands;
+  }
+
+  module _ (finished : is_finished (get old.units.units next) ≡ true) where
+    task_there : (u : ApplyUnit) × (get old.units.units next ≡ Some u) × (done_of (get old.units.work next) ≡ Some (unit_task order next))
+    task_there = finished_done order next old.units.units old.units.work (get old.units.units next) refl finished (stands.tables.units.worked next)
+
+    pub results_free : AreFree old.rows.changes (results_of (done_of (get old.units.work next)))
+    results_free =
+        subst (λ o. AreFree old.rows.changes (results_of o)) (sym task_there.2)
+        (unit_free order (plain_of old) stands.facts next task_there.0 task_there.1 (rows_at order old.at.committed) old.rows stands.tables.rows)
+
+    pub results_few : length (results_of (done_of (get old.units.work next))) ≤ rows_of (get old.units.work next)
+    results_few =
+        let w = stands.tables.units.worked next task_there.0 task_there.1 in
+        let long = ap (λ o. length (results_of o)) task_there.2 ∙ unit_length order (plain_of old) stands.facts next task_there.0 task_there.1 in
+        let rows = ap rows_of w.1 ∙ w.2.rows in
+        omega (arith, long, rows)
+
+  module _ (differs : old.at.committed ≡ old.at.certified → ⊥) where
+    unequal : old.at.committed == old.at.certified ≡ false
+    unequal = by_bool (old.at.committed == old.at.certified) (λ same. differs (eqb-true old.at.committed old.at.certified same))
+
+    more : old.at.committed < old.at.certified
+    more = less_from old.at.committed old.at.certified stands.facts.in_order.committed_fits unequal
+
+    within : old.at.certified ≤ length order
+    within = omega (arith, stands.facts.in_order.certified_fits, stands.facts.in_order.taken_fits)
+
+    step_is : (b : Bool) → is_ready order (plain_of old) next ≡ b
+        → advance_step order (plain_of old)
+        ≡ cond {A = Answer × ModelNode} b (answer.At next, committed_next (plain_of old) next) (answer.NotReady next, plain_of old)
+    unfolding advance_step
+    step_is b is =
+        ap (λ b. cond {A = Answer × ModelNode} b (answer.Nothing, plain_of old)
+        (cond {A = Answer × ModelNode} (is_ready order (plain_of old) next) (answer.At next, committed_next (plain_of old) next) (answer.NotReady next, plain_of old))) unequal
+        ∙ ap (λ b. cond {A = Answer × ModelNode} b (answer.At next, committed_next (plain_of old) next) (answer.NotReady next, plain_of old)) is
+
+    -- the code's reads tell whether it is ready
+    pub ready_is : is_none (commit_numbered next old.fold.commits) || is_finished (get old.units.units next) || is_local old.live next
+        ≡ is_ready order (plain_of old) next
+    ready_is =
+        ap (λ b. b || is_finished (get old.units.units next) || is_local old.live next)
+        (ap (λ (s : FoldState). is_none (commit_numbered next s.commits)) stands.fold
+        ∙ ap is_none (numbered_within order next old.at.certified (omega (arith, more)) within
+        ∙ sym (passed-is order old.at.committed old.at.certified next (omega arith) (omega (arith, more)) within))
+        ∙ sym (not_some (passed_at order old.at.committed old.at.certified next)))
+
+    pub advance_waits : is_ready order (plain_of old) next ≡ false → DoneOver order (λ n. advance_step order n) old old (answer.NotReady next)
+    advance_waits waits = record { same = sym (step_is false waits); stands = stands }
+
+    module _ (ready : is_ready order (plain_of old) next ≡ true) (mid : Node) (takes : TakesUnit next old mid) where
+      -- ---- the rows after the unit
+      rows_finished : is_finished (get old.units.units next) ≡ true → Tabled (rows_at order next) old.live mid.rows
+      rows_finished finished =
+          let task = task_there finished in
+          let event = rows-event order old.at.committed (omega (arith, more, within)) in
+          tabled-put (rows_at order old.at.committed) old.live old.rows mid.rows stands.tables.rows (rows_at order next)
+          (takes.committed ∙ ap (put_all (results_of (done_of (get old.units.work next)))) stands.tables.rows.committed
+          ∙ ap (λ o. put_all (results_of o) (rows_at order old.at.committed)) task.2
+          ∙ ap (λ (t : ModelTask). put_all (results_of (Some t)) (rows_at order old.at.committed))
+          (task-unit order (plain_of old) next task.0 stands.facts task.1)
+          ∙ put_named (ops_at order next) (rows_at order old.at.committed)
+          ∙ sym event)
+          takes.changes
+          (λ o u id is locks changes. ap (λ r. get r id) event
+          ∙ rows_left order (plain_of old) stands.facts next task.0 task.1 (rows_at order old.at.committed) o u id is locks changes)
+
+      rows_waiting : is_finished (get old.units.units next) ≡ false → Tabled (rows_at order old.at.committed) old.live mid.rows
+      rows_waiting none =
+          tabled-put (rows_at order old.at.committed) old.live old.rows mid.rows stands.tables.rows (rows_at order old.at.committed)
+          (takes.committed ∙ ap (λ images. put_all images old.rows.committed)
+          (no_results (done_of (get old.units.work next)) (takes.finished ∙ none))
+          ∙ stands.tables.rows.committed)
+          takes.changes
+          (λ o u id is locks changes. refl)
+
+      -- ---- the rows after the transaction
+      passed_or : {P : Type 0} (o : Option CommitItem) → passed_at order old.at.committed old.at.certified next ≡ o
+          → (passed_at order old.at.committed old.at.certified next ≡ None → P)
+          → ((c : CommitItem) → passed_at order old.at.committed old.at.certified next ≡ Some c → P) → P
+      passed_or None is none some = none is
+      passed_or (Some c) is none some = some c is
+
+      rows_none : committer_of old.live next ≡ None → Tabled (rows_at order next) old.live mid.rows
+      rows_none none =
+          passed_or (passed_at order old.at.committed old.at.certified next) refl
+          (λ absent. two_ways (is_finished (get old.units.units next)) rows_finished
+          (λ waits. subst (λ rows. Tabled rows old.live mid.rows) (sym (rows-none order (plain_of old) stands.facts more absent)) (rows_waiting waits)))
+          (λ c is. rows_finished (unit-finished order (plain_of old) stands.facts more c is
+          (not_local order (plain_of old) stands.facts more (λ s t one. absurd (some_not_none (s, t) (committer_of old.live next) one none))) ready))
+
+      module _ (s : ℕ) (t : Live) (one : committer_of old.live next ≡ Some (s, t)) (new : Node) (is : IsCommitted s next mid new) where
+        here : (get old.live s ≡ Some t) × (commits_at next (s, t) ≡ true)
+        here = committer_there order (plain_of old) stands.facts next s t one
+
+        kept_locks : has_locks t.status ≡ true → Tabled (rows_at order next) (remove old.live s) new.rows
+        kept_locks locks =
+            let certified = certified_locks next t.status here.1 locks in
+            let none = units-local order (plain_of old) stands.facts more s t one certified in
+            subst (λ rows. Tabled rows (remove old.live s) new.rows) (sym (rows-committer order (plain_of old) stands.facts more s t one))
+            (tabled-kept (rows_at order old.at.committed) old.live mid.rows new.rows (rows_waiting (ap is_finished none)) s t here.0 locks
+            is.committed is.changes)
+
+        kept_nothing : has_locks t.status ≡ false → Tabled (rows_at order next) (remove old.live s) new.rows
+        kept_nothing none =
+            passed_or (passed_at order old.at.committed old.at.certified next) refl
+            (λ absent. absurd (some_not_none (s, t) (committer_of old.live next) one (committer-none order (plain_of old) stands.facts more absent)))
+            (λ c passed. tabled-gone (rows_at order next) old.live mid.rows new.rows
+            (rows_finished (unit-finished order (plain_of old) stands.facts more c passed
+            (not_local order (plain_of old) stands.facts more (λ o u other.
+            ap (λ (e : ℕ × Live). is_certified_at next e.1.status) (some_is (o, u) (s, t) (sym other ∙ one)) ∙ no_locks next t.status none)) ready))
+            s t here.0 none is.committed is.changes)
+
+        rows_some : Tabled (rows_at order next) (remove old.live s) new.rows
+        rows_some = two_ways (has_locks t.status) kept_locks kept_nothing
+
+      -- ---- the other parts
+      passed_kept : KeepsChanges order next old.at.certified (remove old.passed.ops next)
+      passed_kept = record {
+        kept = λ number above fits is.
+            get-remove nat_cmp_total old.passed.ops next number
+            ∙ ap (λ b. cond b None (get old.passed.ops number))
+            (by_bool (eq_by_cmp nat_cmp number next) (λ tie. let same = number-exact number next tie in absurd (omega (arith, above, same))))
+            ∙ stands.passed.kept number (omega (arith, above)) fits is;
+        only = λ number has. left_only number _ refl (sym (ap is_some (get-remove nat_cmp_total old.passed.ops next number)) ∙ has);
+      }
+        where
+          left_only : (number : ℕ) (b : Bool) → eq_by_cmp nat_cmp number next ≡ b
+              → is_some (cond b None (get old.passed.ops number)) ≡ true → (next < number) × (number ≤ old.at.certified)
+          left_only number true tie has = cc
+          left_only number false other has =
+              let was = stands.passed.only number has in
+              let apart = not_itself number next other in
+              (less_from next number (omega (arith, was.0)) (by_bool (next == number) (λ same. apart (sym (eqb-true next number same)))), was.1)
+
+      units_left : AreWorked order (without old.units next)
+      units_left = record {
+        worked = λ number u is.
+            let l = left old.units.units next number u is in
+            let w = stands.tables.units.worked number u l.there in
+            (w.0, get-remove nat_cmp_total old.units.work next number ∙ ap (λ b. cond b None (get old.units.work number)) l.elsewhere ∙ w.1, w.2);
+      }
+
+      -- how many rows may still be put
+      room_left : (without old.units next).room ≤ mid.rows.spare
+      room_left = two_ways (is_finished (get old.units.units next))
+          (λ finished. let few = results_few finished in omega (arith, few, takes.spare, stands.tables.room))
+          (λ waits. let none = ap length (no_results (done_of (get old.units.work next)) (takes.finished ∙ waits)) in
+          omega (arith, none, takes.spare, stands.tables.room))
+
+      module _ (parts target : Node)
+          (target_is : target ≡ record old {
+            at = record old.at { committed = old.at.committed + 1 };
+            passed = target.passed;
+            units = parts.units;
+            live = parts.live;
+            waiting = parts.waiting;
+            locks = parts.locks;
+            rows = parts.rows;
+          })
+          (units : parts.units ≡ without old.units next)
+          (told : committed_next (plain_of old) next ≡ record (plain_of old) {
+            at = record old.at { committed = old.at.committed + 1 };
+            units = remove old.units.units next;
+            live = parts.live;
+            waiting = parts.waiting;
+          })
+          (locks : parts.locks.locks ≡ locks_of parts.live (remove old.units.units next))
+          (rows : Tabled (rows_at order next) parts.live parts.rows)
+          (spare : mid.rows.spare ≤ parts.rows.spare)
+          (passed : target.passed.ops ≡ remove old.passed.ops next) where
+        plain_is : plain_of target ≡ committed_next (plain_of old) next
+        plain_is =
+            ap plain_of target_is
+            ∙ ap (λ (u : UnitTable). record (plain_of old) { at = record old.at { committed = old.at.committed + 1 }; units = u.units; live = parts.live; waiting = parts.waiting }) units
+            ∙ sym told
+
+        same : (answer.At next, plain_of target) ≡ advance_step order (plain_of old)
+        same = ap (λ m. (answer.At next, m)) plain_is ∙ sym (step_is true ready)
+
+        committed_is : target.at.committed ≡ next
+        committed_is = ap (λ (m : Node). m.at.committed) target_is
+
+        certified_is : target.at.certified ≡ old.at.certified
+        certified_is = ap (λ (m : Node). m.at.certified) target_is
+
+        committed_tables : Tables order (record old {
+          at = record old.at { committed = old.at.committed + 1 };
+          passed = target.passed;
+          units = parts.units;
+          live = parts.live;
+          waiting = parts.waiting;
+          locks = parts.locks;
+          rows = parts.rows;
+        })
+        committed_tables = record {
+          locks = locks ∙ ap (λ (u : UnitTable). locks_of parts.live u.units) (sym units);
+          rows = rows;
+          units = subst (AreWorked order) (sym units) units_left;
+          room = let left_room : parts.units.room ≡ (without old.units next).room = ap (λ (u : UnitTable). u.room) units in
+              omega (arith, left_room, room_left, spare);
+        }
+
+        pub advance_done : DoneOver order (λ n. advance_step order n) old target (answer.At next)
+        advance_done = record {
+          same = same;
+          stands = record {
+            inbox = ap (λ (m : Node). m.inbox) target_is ∙ stands.inbox
+                ∙ sym (ap (λ (m : Node). drop m.at.certified (take m.at.taken order)) target_is);
+            fold = ap (λ (m : Node). m.fold) target_is ∙ stands.fold ∙ ap (state_at order) (sym certified_is);
+            passed = subst (λ (p : ℕ). KeepsChanges order p target.at.certified target.passed.ops) (sym committed_is)
+                (subst (λ (c : ℕ). KeepsChanges order next c target.passed.ops) (sym certified_is)
+                (subst (KeepsChanges order next old.at.certified) (sym passed) passed_kept));
+            tables = subst (Tables order) (sym target_is) committed_tables;
+            facts = subst (Facts order) (ap (λ (p : Answer × ModelNode). p.1) (sym same)) (advance_keeps order (plain_of old) stands.facts);
+          };
+        }
+
+      -- ---- the node after both
+      mid_base : mid ≡ record old { units = mid.units; live = mid.live; waiting = mid.waiting; locks = mid.locks; rows = mid.rows }
+      mid_base = ap (λ (m : Node). record m { live = mid.live; waiting = mid.waiting }) takes.rest
+
+      mid_live : mid.live ≡ old.live
+      mid_live = ap (λ (m : Node). m.live) takes.rest
+
+      mid_waiting : mid.waiting ≡ old.waiting
+      mid_waiting = ap (λ (m : Node). m.waiting) takes.rest
+
+      mid_locks : mid.locks.locks ≡ locks_of old.live (remove old.units.units next)
+      mid_locks =
+          takes.locks ∙ ap (λ l. remove l (UnitHolder next)) stands.tables.locks ∙ sym (locks_of-remove_unit old.live old.units.units next)
+
+      module _ (new target : Node)
+          (target_is : target ≡ record new { at = record new.at { committed = old.at.committed + 1 }; passed = target.passed })
+          (passed : target.passed.ops ≡ remove new.passed.ops next) where
+        module _ (base : new ≡ record old { units = new.units; live = new.live; waiting = new.waiting; locks = new.locks; rows = new.rows }) where
+          whole : target ≡ record old {
+            at = record old.at { committed = old.at.committed + 1 };
+            passed = target.passed;
+            units = new.units;
+            live = new.live;
+            waiting = new.waiting;
+            locks = new.locks;
+            rows = new.rows;
+          }
+          whole = target_is ∙ ap (λ (m : Node). record m { at = record m.at { committed = old.at.committed + 1 }; passed = target.passed }) base
+
+          whole_passed : target.passed.ops ≡ remove old.passed.ops next
+          whole_passed = passed ∙ ap (λ (m : Node). remove m.passed.ops next) base
+
+        done_none : committer_of old.live next ≡ None → new ≡ mid → DoneOver order (λ n. advance_step order n) old target (answer.At next)
+        done_none none is =
+            let base = subst (λ (m : Node). m ≡ record old { units = m.units; live = m.live; waiting = m.waiting; locks = m.locks; rows = m.rows }) (sym is) mid_base in
+            let live_is : new.live ≡ old.live = ap (λ (m : Node). m.live) is ∙ mid_live in
+            let waiting_is : new.waiting ≡ old.waiting = ap (λ (m : Node). m.waiting) is ∙ mid_waiting in
+            advance_done new target (whole base) (ap (λ (m : Node). m.units) is ∙ takes.units)
+            (ap (told_committed (record (plain_of old) { at = record old.at { committed = old.at.committed + 1 }; units = remove old.units.units next }) next) none
+            ∙ ap (λ l. record (plain_of old) { at = record old.at { committed = old.at.committed + 1 }; units = remove old.units.units next; live = l }) (sym live_is)
+            ∙ ap (λ w. record (plain_of old) { at = record old.at { committed = old.at.committed + 1 }; units = remove old.units.units next; live = new.live; waiting = w }) (sym waiting_is))
+            (ap (λ (m : Node). m.locks.locks) is ∙ mid_locks ∙ ap (λ l. locks_of l (remove old.units.units next)) (sym live_is))
+            (subst (λ (m : Node). Tabled (rows_at order next) m.live m.rows) (sym is)
+            (subst (λ l. Tabled (rows_at order next) l mid.rows) (sym mid_live) (rows_none none)))
+            (omega (arith, ap (λ (m : Node). m.rows.spare) is))
+            (whole_passed base)
+
+        done_some : (s : ℕ) (t : Live) → committer_of old.live next ≡ Some (s, t) → IsCommitted s next mid new
+            → DoneOver order (λ n. advance_step order n) old target (answer.At next)
+        done_some s t one is =
+            let from_old : new ≡ record old { units = mid.units; live = new.live; waiting = new.waiting; locks = new.locks; rows = new.rows } =
+            is.rest ∙ ap (λ (m : Node). record m { live = new.live; waiting = new.waiting; locks = new.locks; rows = new.rows }) takes.rest in
+            let base : new ≡ record old { units = new.units; live = new.live; waiting = new.waiting; locks = new.locks; rows = new.rows } =
+            ap (λ (m : Node). record m { units = new.units }) from_old in
+            let live_is : new.live ≡ remove old.live s = is.live ∙ ap (λ l. remove l s) mid_live in
+            let waiting_is : new.waiting ≡ insert old.waiting s (reply.Committed next) =
+            is.waiting ∙ ap (λ w. insert w s (reply.Committed next)) mid_waiting in
+            advance_done new target (whole base) (ap (λ (m : Node). m.units) is.rest ∙ takes.units)
+            (ap (told_committed (record (plain_of old) { at = record old.at { committed = old.at.committed + 1 }; units = remove old.units.units next }) next) one
+            ∙ ap (λ l. record (plain_of old) { at = record old.at { committed = old.at.committed + 1 }; units = remove old.units.units next; live = l; waiting = insert old.waiting s (reply.Committed next) }) (sym live_is)
+            ∙ ap (λ w. record (plain_of old) { at = record old.at { committed = old.at.committed + 1 }; units = remove old.units.units next; live = new.live; waiting = w }) (sym waiting_is))
+            (is.locks ∙ ap (λ l. remove l (Session s)) mid_locks ∙ sym (locks_of-remove old.live (remove old.units.units next) s)
+            ∙ ap (λ l. locks_of l (remove old.units.units next)) (sym live_is))
+            (subst (λ l. Tabled (rows_at order next) l new.rows) (sym live_is) (rows_some s t one new is))
+            is.spare
+            (whole_passed base)
+
+        done_by : (o : Option (ℕ × Live)) → committer_of old.live next ≡ o → AfterCommitter o next mid new
+            → DoneOver order (λ n. advance_step order n) old target (answer.At next)
+        done_by None is after = done_none is after
+        done_by (Some e) is after = done_some e.0 e.1 is after
+
+        pub advance_does : AfterCommitter (committer_of mid.live next) next mid new
+            → DoneOver order (λ n. advance_step order n) old target (answer.At next)
+        advance_does after =
+            done_by (committer_of old.live next) refl (subst (λ l. AfterCommitter (committer_of l next) next mid new) mid_live after)

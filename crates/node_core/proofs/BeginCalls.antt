@@ -1,0 +1,190 @@
+-- A unit that begins: its entry, the kills and its locks together are the model's start.
+use Rattle.std.proofs.Common.{◌≡◌, ℕ, ◌+◌, ◌≤◌, false, cond, List, length, take, drop, fold, refl, sym, ap, subst, ◌∙◌, arith}
+use Rattle.std.specs.Prelude.{Option, Some, None}
+use Rattle.std.specs.Ordering.{nat_cmp, eq_by_cmp}
+use Rattle.std.specs.Cmp.{nat_cmp_total, eq_by_cmp_equiv}
+use Rattle.std.specs.Option.{unwrap_or}
+use Rattle.finite_map.specs.FiniteMap.{FiniteMap, empty, get, insert, get-insert}
+use Rattle.key_sets.specs.Keys.{Keys, touches}
+use Rattle.row_model.specs.Rows.{Rows}
+use Rattle.order_event.specs.declared.event.Event.{Event}
+use Rattle.order_event.specs.declared.step.Answer.{Answer}
+use Rattle.order_event.specs.declared.step.Answer.TheVariants as answer
+use Rattle.cert_meaning.specs.Fold.{state_at}
+use Rattle.client_trx.specs.Live.{Live}
+use Rattle.row_locks.specs.declared.holder.Holder.{Holder}
+use Rattle.row_locks.specs.declared.holder.Holder.TheVariants.{Unit as UnitHolder}
+use Rattle.row_locks.specs.Holders.{same_holder}
+use Rattle.row_locks.specs.Locks.{LockState, Locks, keys_at, touching_sessions}
+use Rattle.row_locks.proofs.HolderLemmas.{holder_total}
+use Rattle.undo_rows.specs.RowTable.{RowTable}
+use Rattle.node_parts.specs.Passed.{PassedOps}
+use Rattle.node_parts.specs.Units.{Work, UnitTable, added}
+use Rattle.node_meaning.specs.declared.progress.Progress.{Progress}
+use Rattle.node_meaning.specs.declared.progress.Stage.TheVariants.{Started}
+use Rattle.node_meaning.specs.Node.{ModelNode, ApplyUnit, locks_of, rows_at}
+use Rattle.node_meaning.specs.Facts.{Facts}
+use Rattle.node_meaning.specs.Steps.{kill_session, started}
+use Rattle.node_meaning.specs.Units.{ops_at, named_rows}
+use Rattle.node_meaning.proofs.EntryLaws.{number-itself, Inserted, Here, There, inserted}
+use Rattle.node_meaning.proofs.LockLaws.{lock_of_unit, keys_of_unit, get-locks_of-unit, get-set_lock, keys_at-unit, locks_of-insert_unit}
+use Rattle.node_meaning.proofs.StartFacts.{started_keeps}
+use Rattle.node_core.specs.declared.node.Node.{Node}
+use Rattle.node_core.specs.Tabled.{Tabled}
+use Rattle.node_core.specs.Stands.{KeepsChanges, AreWorked, IsWorked, DoneOver, Unchanged, plain_of}
+use Rattle.node_core.specs.Starting.{CanStart, Aborts, IsClear, unit_locked, unit_started}
+use Rattle.node_core.proofs.UnitLocks.{unit_locks}
+
+-- ---- parts that are the same
+same_table : (rows : Rows) (live : FiniteMap nat_cmp Live) (table after : RowTable) → Tabled rows live table
+    → after.committed ≡ table.committed → after.changes ≡ table.changes → Tabled rows live after
+same_table rows live table after tabled committed changes = record {
+  committed = committed ∙ tabled.committed;
+  owned = λ s t id there locks names. ap (λ m. get m id) changes ∙ tabled.owned s t id there locks names;
+  owner = λ s row id there. tabled.owner s row id (ap (λ m. get m id) (sym changes) ∙ there);
+}
+
+-- one more unit is worked on
+module _ (order : List Event) (table : UnitTable) (number : ℕ) (keys : Keys) (rows : ℕ) (worked : AreWorked order table)
+    (count : rows ≡ length (named_rows (ops_at order number))) where
+  abbrev new_unit : ApplyUnit
+  new_unit = record { stage = Started; keys = keys }
+
+  abbrev new_work : Work
+  new_work = record { rows = rows; done = None }
+
+  each : (q : ℕ) (v : ApplyUnit) → Inserted q number new_unit table.units v
+      → (work : Work) × (get (insert table.work number new_work) q ≡ Some work) × IsWorked order q v work
+  each q v (Here key value) = (
+    new_work,
+    get-insert nat_cmp_total table.work number new_work q
+        ∙ ap (λ k. cond (eq_by_cmp nat_cmp k number) (Some new_work) (get table.work q)) key
+        ∙ ap (λ b. cond b (Some new_work) (get table.work q)) (number-itself number),
+    subst (λ (x : ℕ). IsWorked order x v new_work) (sym key)
+        (subst (λ (x : ApplyUnit). IsWorked order number x new_work) (sym value) (record { rows = count; task = refl })),
+  )
+  each q v (There differs elsewhere) =
+      let other = worked.worked q v elsewhere in (
+        other.0,
+        get-insert nat_cmp_total table.work number new_work q ∙ ap (λ b. cond b (Some new_work) (get table.work q)) differs ∙ other.1,
+        other.2,
+      )
+
+  worked_added : AreWorked order (added table number keys rows)
+  worked_added = record { worked = λ q v h. each q v (inserted table.units number new_unit q v h) }
+
+-- ---- locks of a unit that others' keys do not touch
+module _ (live : FiniteMap nat_cmp Live) (older : FiniteMap nat_cmp ApplyUnit) (number : ℕ) (unit : ApplyUnit) where
+  others_keys : (g : Holder) → same_holder (UnitHolder number) g ≡ false
+      → keys_at (locks_of live (insert older number unit)) g ≡ keys_at (locks_of live older) g
+  others_keys g other =
+      ap (λ (m : Locks). keys_at m g) (locks_of-insert_unit live older number unit)
+      ∙ ap (λ (o : Option Keys). unwrap_or o empty) (get-set_lock (locks_of live older) (UnitHolder number) (lock_of_unit (Some unit)) g)
+      ∙ ap (λ b. unwrap_or (cond b (lock_of_unit (Some unit)) (get (locks_of live older) g)) empty)
+      ((eq_by_cmp_equiv holder_total).symm g (UnitHolder number) ∙ other)
+
+  own_keys : keys_at (locks_of live (insert older number unit)) (UnitHolder number) ≡ unit.keys
+  own_keys =
+      keys_at-unit live (insert older number unit) number
+      ∙ ap keys_of_unit (get-insert nat_cmp_total older number unit number
+      ∙ ap (λ b. cond b (Some unit) (get older number)) (number-itself number))
+
+-- ---- the call
+module _ (order : List Event) (old mid killed : Node) (number : ℕ) (keys : Keys) (rows : ℕ) (aborted : List ℕ) (units : UnitTable)
+    (can : CanStart order old number keys) (unchanged : Unchanged old mid) (same_units : mid.units ≡ old.units)
+    (put : units ≡ added mid.units number keys rows) (victims : aborted ≡ touching_sessions old.locks.locks keys)
+    (kills : Aborts (λ n. fold (kill_session number) n aborted) (record mid { units = units }) killed) where
+  abbrev n : ModelNode
+  n = plain_of old
+
+  abbrev unit : ApplyUnit
+  unit = record { stage = Started; keys = keys }
+
+  at_is : killed.at ≡ old.at
+  at_is = kills.at ∙ ap (λ (m : ModelNode). m.at) unchanged.plain
+
+  live_is : mid.live ≡ old.live
+  live_is = ap (λ (m : ModelNode). m.live) unchanged.plain
+
+  units_is : units ≡ added old.units number keys rows
+  units_is = put ∙ ap (λ (t : UnitTable). added t number keys rows) same_units
+
+  begun : plain_of (record mid { units = units }) ≡ record n { units = insert n.units number unit }
+  begun =
+      ap (λ (m : ModelNode). record m { units = units.units }) unchanged.plain
+      ∙ ap (λ (t : UnitTable). record n { units = t.units }) units_is
+
+  aborted_is : aborted ≡ touching_sessions (locks_of old.live old.units.units) keys
+  aborted_is = victims ∙ ap (λ (m : Locks). touching_sessions m keys) can.stands.tables.locks
+
+  same : ◌≡◌ {A = Answer × ModelNode} (answer.Started number aborted, plain_of killed) (unit_started number keys n)
+  same =
+      ap (λ (m : ModelNode). (answer.Started number aborted, m))
+      (kills.plain ∙ ap (λ (m : ModelNode). fold (kill_session number) m aborted) begun)
+      ∙ ap (started n number keys) aborted_is
+
+  facts : Facts order (plain_of killed)
+  facts =
+      subst (Facts order) (sym (ap (λ (p : Answer × ModelNode). p.1) same))
+      (started_keeps order n number (record { number = can.label; trx = can.trx; keys = keys }) can.stands.facts
+      (record { above = can.above; within = can.within; is_commit = can.is_commit }) can.fresh can.remote can.clear)
+
+  killed_units : killed.units ≡ added old.units number keys rows
+  killed_units = kills.units ∙ units_is
+
+  killed_locks : killed.locks.locks ≡ locks_of killed.live old.units.units
+  killed_locks =
+      kills.locks old.units.units
+      (unchanged.locks ∙ can.stands.tables.locks ∙ ap (λ (m : FiniteMap nat_cmp Live). locks_of m old.units.units) (sym live_is))
+
+  -- nobody is in the way any more
+  pub begin_clear : IsClear killed.locks.locks number keys
+  begin_clear = λ g other.
+      ap (λ (m : Locks). touches keys (keys_at m g)) killed_locks
+      ∙ ap (touches keys) (sym (others_keys killed.live old.units.units number unit g other))
+      ∙ ap (λ (k : Keys). touches k (keys_at (locks_of killed.live (insert old.units.units number unit)) g))
+      (sym (own_keys killed.live old.units.units number unit))
+      ∙ ap (λ (t : UnitTable). touches (keys_at (locks_of killed.live t.units) (UnitHolder number)) (keys_at (locks_of killed.live t.units) g)) (sym killed_units)
+      ∙ facts.apart (UnitHolder number) g other
+
+  module _ (locks : LockState) (granted : locks.locks ≡ unit_locked killed.locks.locks number keys.entries)
+      (count : rows ≡ length (named_rows (ops_at order number))) (room : mid.units.room + rows ≤ mid.rows.spare) where
+    none : get (locks_of killed.live old.units.units) (UnitHolder number) ≡ None
+    none = get-locks_of-unit killed.live old.units.units number ∙ ap lock_of_unit can.fresh
+
+    locks_are : locks.locks ≡ locks_of killed.live killed.units.units
+    locks_are =
+        granted ∙ ap (λ (m : Locks). unit_locked m number keys.entries) killed_locks
+        ∙ unit_locks (locks_of killed.live old.units.units) number keys none
+        ∙ sym (locks_of-insert_unit killed.live old.units.units number unit)
+        ∙ ap (λ (t : UnitTable). locks_of killed.live t.units) (sym killed_units)
+
+    rows_are : Tabled (rows_at order killed.at.committed) killed.live killed.rows
+    rows_are =
+        subst (λ (a : Progress). Tabled (rows_at order a.committed) killed.live killed.rows) (sym at_is)
+        (kills.rows (rows_at order old.at.committed)
+        (subst (λ (m : FiniteMap nat_cmp Live). Tabled (rows_at order old.at.committed) m mid.rows) (sym live_is)
+        (same_table (rows_at order old.at.committed) old.live old.rows mid.rows can.stands.tables.rows unchanged.committed unchanged.changes)))
+
+    room_is : killed.units.room ≡ mid.units.room + rows
+    room_is = ap (λ (t : UnitTable). t.room) (kills.units ∙ put)
+
+    pub begin_done : DoneOver order (unit_started number keys) old (record killed { locks = locks }) (answer.Started number aborted)
+    begin_done = record {
+      same = same;
+      stands = record {
+        inbox = kills.inbox ∙ unchanged.inbox ∙ can.stands.inbox
+            ∙ ap (λ (a : Progress). drop a.certified (take a.taken order)) (sym at_is);
+        fold = kills.fold ∙ unchanged.fold ∙ can.stands.fold ∙ ap (λ (a : Progress). state_at order a.certified) (sym at_is);
+        passed = subst (λ (a : Progress). KeepsChanges order a.committed a.certified killed.passed.ops) (sym at_is)
+            (subst (KeepsChanges order old.at.committed old.at.certified) (sym (ap (λ (p : PassedOps). p.ops) kills.passed ∙ unchanged.passed))
+            can.stands.passed);
+        tables = record {
+          locks = locks_are;
+          rows = rows_are;
+          units = subst (AreWorked order) (sym killed_units) (worked_added order old.units number keys rows can.stands.tables.units count);
+          room = omega (arith, room_is, room, kills.room);
+        };
+        facts = facts;
+      };
+    }

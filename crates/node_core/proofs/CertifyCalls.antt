@@ -1,0 +1,235 @@
+-- Certifying the next event does what the model does.
+use Rattle.std.proofs.Common.{◌≡◌, ℕ, ◌≤◌, Bool, true, false, cond, List, Option, None, Some, refl, ap, sym, subst, ◌∙◌, arith, true≢false}
+use Rattle.std.specs.Prelude.{◌==◌, option_map}
+use Rattle.std.specs.Ordering.{nat_cmp, eq_by_cmp}
+use Rattle.std.specs.Cmp.{nat_cmp_total}
+use Rattle.std.specs.FinMap.{nat_cmp-IsAntisymmetric}
+use Rattle.finite_map.specs.FiniteMap.{FiniteMap, get, insert, remove, get-insert, get-remove, same_map}
+use Rattle.wsrep_base.specs.declared.verdict.Verdict.{Verdict}
+use Rattle.wsrep_base.specs.declared.verdict.Verdict.TheVariants as verdict
+use Rattle.row_model.specs.declared.row.RowId.{RowId}
+use Rattle.row_model.specs.declared.calls.Reply.{Reply}
+use Rattle.row_model.specs.Rows.{Rows, ops_on}
+use Rattle.row_locks.specs.declared.holder.Holder.TheVariants.{Session}
+use Rattle.client_trx.specs.declared.status.Status.{Status}
+use Rattle.client_trx.specs.declared.status.Status.TheVariants as status
+use Rattle.client_trx.specs.declared.status.Outcome.{Outcome}
+use Rattle.client_trx.specs.declared.status.Outcome.TheVariants.{Lives, Ends}
+use Rattle.client_trx.specs.Live.{Live, has_locks, is_sent, with_status, passed_status, judged_by}
+use Rattle.undo_rows.specs.RowTable.{RowTable, without}
+use Rattle.node_meaning.specs.Node.{ModelNode, locks_of, rows_at}
+use Rattle.node_meaning.specs.Steps.{told, told_verdict, session_of}
+use Rattle.node_meaning.proofs.EntryLaws.{entry_found, number-exact, some_is, some_not_none}
+use Rattle.node_meaning.proofs.LockLaws.{locks_of-same, locks_of-remove}
+use Rattle.order_event.specs.declared.event.Event.{Event}
+use Rattle.node_core.specs.declared.node.Node.{Node}
+use Rattle.node_core.specs.Tabled.{Tabled, Owns, changes_row}
+use Rattle.node_core.specs.Stands.{Tables, Moves, AreWorked, plain_of}
+use Rattle.node_core.proofs.Tabling.{LiveAfter, New, Old, put_live, tabled-same, tabled-ended}
+
+-- ---- maps
+module _ {X : Type 0} (m : FiniteMap nat_cmp X) (k : ℕ) (v : X) where
+  put_again : (q : ℕ) (b : Bool) → eq_by_cmp nat_cmp q k ≡ b
+      → cond b (Some v) (get (remove m k) q) ≡ cond b (Some v) (get m q)
+  put_again q true is = refl
+  put_again q false is = get-remove nat_cmp_total m k q ∙ ap (λ b. cond b None (get m q)) is
+
+  -- an entry that was taken out and is put there again
+  pub insert-remove : insert (remove m k) k v ≡ insert m k v
+  insert-remove = same_map nat_cmp_total nat_cmp-IsAntisymmetric (insert (remove m k) k v) (insert m k v) (λ q.
+      get-insert nat_cmp_total (remove m k) k v q ∙ put_again q _ refl ∙ sym (get-insert nat_cmp_total m k v q))
+
+  put_same : get m k ≡ Some v → (q : ℕ) (b : Bool) → eq_by_cmp nat_cmp q k ≡ b → cond b (Some v) (get m q) ≡ get m q
+  put_same there q true is = sym there ∙ ap (get m) (sym (number-exact q k is))
+  put_same there q false is = refl
+
+  pub insert-same : get m k ≡ Some v → insert m k v ≡ m
+  insert-same there = same_map nat_cmp_total nat_cmp-IsAntisymmetric (insert m k v) m (λ q. get-insert nat_cmp_total m k v q ∙ put_same there q _ refl)
+
+pub by_bool : (b : Bool) → (b ≡ true → ⊥) → b ≡ false
+by_bool true no_true = absurd (no_true refl)
+by_bool false no_true = refl
+
+-- ---- a transaction that has no locks before and after
+no_both : (b : Bool) → b ≡ true → b ≡ false → ⊥
+no_both true t f = absurd cc
+no_both false t f = absurd cc
+
+module _ (rows : Rows) (live : FiniteMap nat_cmp Live) (table : RowTable) (tabled : Tabled rows live table) where
+  pub tabled-idle : (s : ℕ) (t u : Live) → get live s ≡ Some t → has_locks t.status ≡ false → has_locks u.status ≡ false
+      → Tabled rows (insert live s u) table
+  tabled-idle s t u there none still = record {
+    committed = tabled.committed;
+    owned = λ o v id is locked names. idle_owned o v id (put_live live s o v u is) locked names;
+    owner = λ o row id h. idle_owner o id (tabled.owner o row id h) _ refl;
+  }
+    where
+      idle_owned : (o : ℕ) (v : Live) (id : RowId) → LiveAfter live s o v u → has_locks v.status ≡ true → changes_row id v.ops ≡ true
+          → get table.changes id ≡ Some (o, get (ops_on v.ops rows) id)
+      idle_owned o v id (New is own) locked names =
+          absurd (no_both (has_locks v.status) locked (ap (λ (l : Live). has_locks l.status) own ∙ still))
+      idle_owned o v id (Old other is) locked names = tabled.owned o v id is locked names
+
+      idle_owner : (o : ℕ) (id : RowId) → Owns live o id → (b : Bool) → eq_by_cmp nat_cmp o s ≡ b → Owns (insert live s u) o id
+      idle_owner o id owns false other = record {
+        trx = owns.trx;
+        is_live = get-insert nat_cmp_total live s u o ∙ ap (λ b. cond b (Some u) (get live o)) other ∙ owns.is_live;
+        locks = owns.locks;
+        changes = owns.changes;
+      }
+      idle_owner o id owns true tie =
+          let own : owns.trx ≡ t = some_is owns.trx t (sym owns.is_live ∙ ap (get live) (number-exact o s tie) ∙ there) in
+          absurd (no_both (has_locks owns.trx.status) owns.locks (ap (λ (l : Live). has_locks l.status) own ∙ none))
+
+-- ---- what a verdict leaves of a transaction that lives on
+record Same (t u : Live) : Type 0 where
+  locks : has_locks u.status ≡ has_locks t.status
+  keys : u.keys ≡ t.keys
+  ops : u.ops ≡ t.ops
+
+itself : (t u : Live) → u ≡ t → Same t u
+itself t u is = record {
+  locks = ap (λ (l : Live). has_locks l.status) is;
+  keys = ap (λ (l : Live). l.keys) is;
+  ops = ap (λ (l : Live). l.ops) is;
+}
+
+passed_locks : (number : ℕ) (s : Status) → is_sent s ≡ true → has_locks (passed_status number s) ≡ has_locks s
+passed_locks number status.Running waits = absurd cc
+passed_locks number status.FragmentSent waits = refl
+passed_locks number status.CommitSent waits = refl
+passed_locks number (status.Certified own) waits = absurd cc
+passed_locks number status.KilledSent waits = refl
+passed_locks number (status.Replaying own) waits = absurd cc
+
+second : {A B : Type 0} (p q : A × B) → p ≡ q → p.1 ≡ q.1
+second {A = A} {B = B} p q e = ap (λ (x : A × B). x.1) e
+
+abbrev is_lives : Outcome → Bool
+is_lives Lives = true
+is_lives (Ends reply) = false
+
+not_ended : (p q : Outcome × Live) → p ≡ q → is_lives p.0 ≡ true → is_lives q.0 ≡ false → ⊥
+not_ended p q e one other = true≢false (sym one ∙ ap (λ (x : Outcome × Live). is_lives x.0) e ∙ other)
+
+judged_same : (number : ℕ) (v : Verdict) (t u : Live) → is_sent t.status ≡ true → (Lives, u) ≡ judged_by number v t → Same t u
+judged_same number verdict.Pass t u waits is =
+    let same : u ≡ with_status t (passed_status number t.status) = second _ _ is in
+    record {
+      locks = ap (λ (l : Live). has_locks l.status) same ∙ passed_locks number t.status waits;
+      keys = ap (λ (l : Live). l.keys) same;
+      ops = ap (λ (l : Live). l.ops) same;
+    }
+judged_same number verdict.Malformed t u waits is = itself t u (second _ _ is)
+judged_same number verdict.Stranger t u waits is = itself t u (second _ _ is)
+judged_same number verdict.Repeat t u waits is = itself t u (second _ _ is)
+judged_same number verdict.Future t u waits is = itself t u (second _ _ is)
+judged_same number verdict.Stale t u waits is = itself t u (second _ _ is)
+judged_same number verdict.Broken t u waits is = itself t u (second _ _ is)
+judged_same number (verdict.Conflict n) t u waits is = absurd (not_ended _ _ is refl refl)
+judged_same number (verdict.Held n) t u waits is = absurd (not_ended _ _ is refl refl)
+
+-- ---- the verdict
+pub two_ways : {P : Type 0} (b : Bool) → (b ≡ true → P) → (b ≡ false → P) → P
+two_ways true locked free = locked refl
+two_ways false locked free = free refl
+
+pub found_entry : (o : Option (ℕ × Live)) (session : ℕ) → option_map (λ e. e.0) o ≡ Some session → (t : Live) × (o ≡ Some (session, t))
+found_entry None session is = absurd cc
+found_entry (Some e) session is = (e.1, ap (λ k. Some (k, e.1)) (some_is e.0 session is))
+
+nothing_found : (o : Option (ℕ × Live)) → option_map (λ e. e.0) o ≡ None → o ≡ None
+nothing_found None is = refl
+nothing_found (Some e) is = absurd cc
+
+module _ (old : Node) (begin number : ℕ) (v : Verdict) where
+  abbrev pub tells : ModelNode → ModelNode
+  tells n = told_verdict n number v (session_of n.live begin)
+
+  stays : told_verdict (plain_of old) number v (session_of old.live begin) ≡ plain_of old → Moves tells old old
+  stays same = record { plain = sym same; inbox = refl; fold = refl; passed = refl; tables = λ order tables. tables }
+
+  -- no transaction has the number
+  pub tell_none : option_map (λ e. e.0) (session_of old.live begin) ≡ None → Moves tells old old
+  tell_none none = stays (ap (told_verdict (plain_of old) number v) (nothing_found (session_of old.live begin) none))
+
+  module _ (session : ℕ) (found : option_map (λ e. e.0) (session_of old.live begin) ≡ Some session) where
+    there_by : (e : (t : Live) × (session_of old.live begin ≡ Some (session, t))) → get old.live session ≡ Some e.0
+    there_by e = (entry_found old.live (λ e. e.1.trx.begin == begin) (session, e.0) e.1).there
+
+    -- the transaction is there
+    pub tell_there : get old.live session ≡ None → ⊥
+    tell_there none = let e = found_entry (session_of old.live begin) session found in some_not_none e.0 (get old.live session) (there_by e) none
+
+    module _ (t : Live) (is : get old.live session ≡ Some t) where
+      found_is : session_of old.live begin ≡ Some (session, t)
+      found_is =
+          let e = found_entry (session_of old.live begin) session found in
+          e.1 ∙ ap (λ u. Some (session, u)) (some_is e.0 t (sym (there_by e) ∙ is))
+
+      by_status : (b : Bool) → is_sent t.status ≡ b
+          → tells (plain_of old) ≡ cond b (told (plain_of old) session (judged_by number v t)) (plain_of old)
+      by_status b sent =
+          ap (told_verdict (plain_of old) number v) found_is
+          ∙ ap (λ b. cond b (told (plain_of old) session (judged_by number v t)) (plain_of old)) sent
+
+      -- it waits for no verdict, and is put back
+      pub tell_put_back : is_sent t.status ≡ false → (live : FiniteMap nat_cmp Live) → live ≡ insert (remove old.live session) session t
+          → Moves tells old (record old { live = live })
+      tell_put_back idle live put =
+          let same : live ≡ old.live = put ∙ insert-remove old.live session t ∙ insert-same old.live session t is in
+          subst (λ l. Moves tells old (record old { live = l })) (sym same) (stays (by_status false idle))
+
+      module _ (sent : is_sent t.status ≡ true) where
+        -- it lives on
+        pub tell_lives : (u : Live) → (Lives, u) ≡ judged_by number v t → (live : FiniteMap nat_cmp Live)
+            → live ≡ insert (remove old.live session) session u → Moves tells old (record old { live = live })
+        tell_lives u judged live put =
+            let now : live ≡ insert old.live session u = put ∙ insert-remove old.live session u in
+            let same = judged_same number v t u sent judged in
+            subst (λ l. Moves tells old (record old { live = l })) (sym now) (record {
+              plain = sym (by_status true sent ∙ ap (told (plain_of old) session) (sym judged));
+              inbox = refl;
+              fold = refl;
+              passed = refl;
+              tables = λ order tables. record {
+                locks = tables.locks ∙ sym (locks_of-same old.live old.units.units session t u is same.locks same.keys);
+                rows = two_ways (has_locks t.status)
+                    (λ locked. tabled-same (rows_at order old.at.committed) old.live old.rows old.rows tables.rows session t u is locked
+                    same.ops (same.locks ∙ locked) refl refl)
+                    (λ free. tabled-idle (rows_at order old.at.committed) old.live old.rows tables.rows session t u is free (same.locks ∙ free));
+                units = tables.units;
+                room = tables.room;
+              };
+            })
+
+        -- it ends
+        pub tell_ends : (reply : Reply) (u : Live) → (Ends reply, u) ≡ judged_by number v t → (new : Node)
+            → new ≡ record old { live = new.live; waiting = new.waiting; locks = new.locks; rows = new.rows }
+            → new.live ≡ remove old.live session → new.waiting ≡ insert old.waiting session reply
+            → new.locks.locks ≡ remove old.locks.locks (Session session) → new.rows.committed ≡ old.rows.committed
+            → new.rows.changes ≡ without old.rows.changes session → old.rows.spare ≤ new.rows.spare → Moves tells old new
+        tell_ends reply u judged new is_new live waiting locks committed changes spare = record {
+          plain = sym (by_status true sent ∙ ap (told (plain_of old) session) (sym judged)
+              ∙ sym (ap plain_of is_new ∙ ap (λ l. record (plain_of old) { live = l; waiting = new.waiting }) live
+              ∙ ap (λ w. record (plain_of old) { live = remove old.live session; waiting = w }) waiting));
+          inbox = ap (λ (n : Node). n.inbox) is_new;
+          fold = ap (λ (n : Node). n.fold) is_new;
+          passed = ap (λ (n : Node). n.passed) is_new;
+          tables = λ order tables. ended order tables;
+        }
+          where
+            units_is : new.units ≡ old.units
+            units_is = ap (λ (n : Node). n.units) is_new
+
+            ended : (order : List Event) → Tables order old → Tables order new
+            ended order tables = record {
+              locks = locks ∙ ap (λ l. remove l (Session session)) tables.locks
+                  ∙ sym (locks_of-remove old.live old.units.units session)
+                  ∙ ap (λ l. locks_of l old.units.units) (sym live) ∙ ap (λ u. locks_of new.live u.units) (sym units_is);
+              rows = subst (λ l. Tabled (rows_at order new.at.committed) l new.rows) (sym live)
+                  (subst (λ (n : ℕ). Tabled (rows_at order n) (remove old.live session) new.rows) (sym (ap (λ (n : Node). n.at.committed) is_new))
+                  (tabled-ended (rows_at order old.at.committed) old.live old.rows new.rows tables.rows session committed changes));
+              units = subst (λ u. AreWorked order u) (sym units_is) tables.units;
+              room = omega (arith, tables.room, spare, ap (λ (n : Node). n.units.room) is_new);
+            }

@@ -1,0 +1,98 @@
+-- A node that stands for an order stands for every order that goes on from it.
+use Rattle.std.proofs.Common.{◌≡◌, ℕ, zero, suc, ◌+◌, ◌≤◌, ◌<◌, List, [], ◌∷◌, ◌++◌, length, Option, None, Some, refl, sym, ap, subst, ◌∙◌, arith, drop}
+use Rattle.std.specs.Prelude.{slice_get, IsTrue, is_some}
+use Rattle.std.proofs.lemmas.List.{take-append-le}
+use Rattle.order_event.specs.declared.event.Event.{Event}
+use Rattle.row_model.specs.declared.ops.Op.{Op}
+use Rattle.row_model.specs.Rows.{Rows}
+use Rattle.finite_map.specs.FiniteMap.{get}
+use Rattle.apply_unit.specs.Task.{ModelTask, task}
+use Rattle.cert_meaning.specs.State.{FoldState}
+use Rattle.cert_meaning.specs.Fold.{state_at}
+use Rattle.cert_meaning.proofs.FoldLaws.{state_at-append}
+use Rattle.node_meaning.specs.declared.progress.Stage.{Stage}
+use Rattle.node_meaning.specs.declared.progress.Stage.TheVariants as stage
+use Rattle.node_meaning.specs.Node.{ApplyUnit, rows_at}
+use Rattle.node_meaning.specs.Units.{ops_at, ops_by, rows_before, unit_task, images_of, named_rows}
+use Rattle.node_meaning.specs.Facts.{commit_at}
+use Rattle.node_meaning.proofs.GrowFacts.{facts_grow, commit_at-append}
+use Rattle.node_parts.specs.Units.{Work}
+use Rattle.node_core.specs.declared.node.Node.{Node}
+use Rattle.node_core.specs.Tabled.{Tabled}
+use Rattle.node_core.specs.Stands.{Stands, Tables, AreWorked, IsWorked, HasTask, KeepsChanges}
+
+get_front : {A : Type 0} (xs ys : List A) (n : ℕ) → suc n ≤ length xs → slice_get (xs ++ ys) n ≡ slice_get xs n
+get_front [] ys n below = absurd (omega (arith, below))
+get_front (x ∷ xs) ys zero below = refl
+get_front (x ∷ xs) ys (suc n) below = get_front xs ys n (omega (arith, below))
+
+module _ (order more : List Event) where
+  ops_at-append : (number : ℕ) → number ≤ length order → ops_at (order ++ more) number ≡ ops_at order number
+  ops_at-append zero fits = refl
+  ops_at-append (suc n) fits =
+      ap (λ s. ops_by s (slice_get (order ++ more) n)) (state_at-append order more n (omega (arith, fits)))
+      ∙ ap (ops_by (state_at order n)) (get_front order more n fits)
+
+  rows_at-append : (n : ℕ) → n ≤ length order → rows_at (order ++ more) n ≡ rows_at order n
+  rows_at-append n fits = ap (λ (s : FoldState). s.rows) (state_at-append order more n fits)
+
+  rows_before-append : (number : ℕ) → number ≤ length order → rows_before (order ++ more) number ≡ rows_before order number
+  rows_before-append zero fits = rows_at-append 0 (omega arith)
+  rows_before-append (suc n) fits = rows_at-append n (omega (arith, fits))
+
+  -- the work of a unit stays
+  pub unit_task-append : (number : ℕ) → number ≤ length order → unit_task (order ++ more) number ≡ unit_task order number
+  unit_task-append number fits =
+      ap (λ ops. task number ops (images_of ops (rows_before (order ++ more) number))) (ops_at-append number fits)
+      ∙ ap (λ rows. task number (ops_at order number) (images_of (ops_at order number) rows)) (rows_before-append number fits)
+
+  task-append : (number : ℕ) (work : Work) (s : Stage) → number ≤ length order → HasTask order number work s
+      → HasTask (order ++ more) number work s
+  task-append number work stage.Started fits h = h
+  task-append number work stage.Finished fits h = h ∙ ap Some (sym (unit_task-append number fits))
+
+  worked-append : (number : ℕ) (u : ApplyUnit) (work : Work) → number ≤ length order → IsWorked order number u work
+      → IsWorked (order ++ more) number u work
+  worked-append number u work fits h = record {
+    rows = h.rows ∙ ap (λ ops. length (named_rows ops)) (sym (ops_at-append number fits));
+    task = task-append number work u.stage fits h.task;
+  }
+
+  module _ (node : Node) (st : Stands order node) where
+    certified_fits : node.at.certified ≤ length order
+    certified_fits = omega (arith, st.facts.in_order.certified_fits, st.facts.in_order.taken_fits)
+
+    committed_fits : node.at.committed ≤ length order
+    committed_fits = omega (arith, certified_fits, st.facts.in_order.committed_fits)
+
+    units-append : AreWorked (order ++ more) node.units
+    units-append = record {
+      worked = λ number u there.
+          let unit = st.facts.units number u there in
+          let old = st.tables.units.worked number u there in
+          (old.0, old.1, worked-append number u old.0 (omega (arith, unit.within, certified_fits)) old.2);
+    }
+
+    passed-append : KeepsChanges (order ++ more) node.at.committed node.at.certified node.passed.ops
+    passed-append = record {
+      kept = λ number above within is.
+          let fits : number ≤ length order = omega (arith, within, certified_fits) in
+          st.passed.kept number above within (subst (λ c. IsTrue (is_some c)) (commit_at-append order more number fits) is)
+          ∙ ap Some (sym (ops_at-append number fits));
+      only = st.passed.only;
+    }
+
+  -- the node stands for the longer order
+  pub stands_grow : (node : Node) → Stands order node → Stands (order ++ more) node
+  stands_grow node st = record {
+    inbox = st.inbox ∙ ap (drop node.at.certified) (sym (take-append-le node.at.taken order more st.facts.in_order.taken_fits));
+    fold = st.fold ∙ sym (state_at-append order more node.at.certified (certified_fits node st));
+    passed = passed-append node st;
+    tables = record {
+      locks = st.tables.locks;
+      rows = subst (λ rows. Tabled rows node.live node.rows) (sym (rows_at-append node.at.committed (committed_fits node st))) st.tables.rows;
+      units = units-append node st;
+      room = st.tables.room;
+    };
+    facts = facts_grow order more _ st.facts;
+  }

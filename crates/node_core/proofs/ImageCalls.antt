@@ -1,0 +1,167 @@
+-- The images that a unit needs: one for each row that its changes name.
+use Rattle.std.proofs.Common.{◌≡◌, ℕ, suc, ◌+◌, ◌<◌, Bool, true, false, cond, ◌||◌, ◌&&◌, List, [], ◌∷◌, ◌++◌, length, map, take, fold, get_or, Option, refl, sym, ap, subst, ◌∙◌, true≢false}
+use Rattle.std.specs.Prelude.{not}
+use Rattle.std.specs.List.{list_any, list_all, IsDistinct, AllByRecursion}
+use Rattle.std.specs.Map.{keys_of}
+use Rattle.std.specs.Ordering.{eq_by_cmp}
+use Rattle.std.proofs.lemmas.List.{map-append}
+use Rattle.std.proofs.lemmas.List.Sums.{fold_more}
+use Rattle.finite_map.specs.FiniteMap.{get}
+use Rattle.row_model.specs.declared.row.RowId.{RowId}
+use Rattle.row_model.specs.declared.ops.Op.{Op}
+use Rattle.row_model.specs.Rows.{Rows, row_cmp, id_of}
+use Rattle.row_model.specs.RowOrder.{row_eq, row_ties, row_itself}
+use Rattle.apply_unit.specs.Results.{Image}
+use Rattle.apply_unit.specs.Task.{AreImagesOf}
+use Rattle.apply_unit.proofs.TaskLemmas.{row_symmetric}
+use Rattle.node_meaning.specs.Units.{with_id, named_rows, images_of}
+
+any_ties : (id : RowId) (ids : List RowId) → list_any (row_eq id) ids ≡ list_any (eq_by_cmp row_cmp id) ids
+any_ties id [] = refl
+any_ties id (x ∷ xs) = λ i. row_ties id x i || any_ties id xs i
+
+pub no_rows : [] ≡ named_rows []
+unfolding named_rows
+no_rows = refl
+
+pub no_images : (rows : Rows) → [] ≡ images_of [] rows
+no_images rows = ap (map {B = Image} (λ (id : RowId). (id, get rows id))) no_rows
+
+pub was_there : (b c : Bool) → b ≡ not c → b ≡ false → c ≡ true
+was_there b true is f = refl
+was_there b false is f = absurd (true≢false (sym is ∙ f))
+
+pub was_new : (b c : Bool) → b ≡ not c → b ≡ true → c ≡ false
+was_new b true is t = absurd (true≢false (sym t ∙ is))
+was_new b false is t = refl
+
+named_more : (ops : List Op) (i : ℕ) (d : Op) → i < length ops → named_rows (take (i + 1) ops) ≡ with_id (named_rows (take i ops)) (id_of (get_or ops i d))
+unfolding named_rows
+named_more ops i d below = fold_more (λ (ids : List RowId) (change : Op). with_id ids (id_of change)) [] ops i d below
+
+module _ (ops : List Op) (i : ℕ) (op : Op) (id : RowId) (named after : List RowId) (below : i < length ops) (is : op ≡ get_or ops i op)
+    (own : id ≡ id_of op) (same : named ≡ named_rows (take i ops))
+    (put : after ≡ cond (list_any (row_eq id) named) named (named ++ id ∷ [])) where
+  next : with_id named id ≡ named_rows (take (i + 1) ops)
+  next = ap (with_id named) (own ∙ ap id_of is) ∙ ap (λ ids. with_id ids (id_of (get_or ops i op))) same ∙ sym (named_more ops i op below)
+
+  pub one_more_row : after ≡ named_rows (take (i + 1) ops)
+  one_more_row = put ∙ ap (λ b. cond b named (named ++ id ∷ [])) (any_ties id named) ∙ next
+
+  module _ (rows : Rows) where
+    abbrev image_of : RowId → Image
+    image_of x = (x, get rows x)
+
+    abbrev imaged : List RowId → List Image
+    imaged ids = map image_of ids
+
+    grown : (b : Bool) → list_any (row_eq id) named ≡ b → cond b named (named ++ id ∷ []) ≡ named_rows (take (i + 1) ops)
+    grown b there = ap (λ b. cond b named (named ++ id ∷ [])) (sym there ∙ any_ties id named) ∙ next
+
+    -- the row was named before
+    pub image_there : (images : List Image) → list_any (row_eq id) named ≡ true → images ≡ images_of (take i ops) rows
+        → images ≡ images_of (take (i + 1) ops) rows
+    image_there images there so_far = so_far ∙ ap imaged (sym same ∙ grown true there)
+
+    -- the row is named for the first time
+    pub image_new : (images more : List Image) (row : Option (List ℕ)) → list_any (row_eq id) named ≡ false
+        → images ≡ images_of (take i ops) rows → row ≡ get rows id → more ≡ images ++ (id, row) ∷ []
+        → more ≡ images_of (take (i + 1) ops) rows
+    image_new images more row there so_far read pushed =
+        pushed ∙ ap (λ (all : List Image). all ++ (id, row) ∷ []) so_far
+        ∙ ap (λ (r : Option (List ℕ)). imaged (named_rows (take i ops)) ++ (id, r) ∷ []) read
+        ∙ ap (λ ids. imaged ids ++ image_of id ∷ []) (sym same)
+        ∙ sym (map-append image_of named (id ∷ []))
+        ∙ ap imaged (grown false there)
+
+-- ---- the images are those of a task
+any_left : (q x : RowId) (ids : List RowId) → list_any (row_eq q) ids ≡ true → list_any (row_eq q) (ids ++ x ∷ []) ≡ true
+any_left q x [] there = absurd (true≢false (sym there))
+any_left q x (y ∷ ys) there = left_by (row_eq q y) (list_any (row_eq q) ys) (list_any (row_eq q) (ys ++ x ∷ [])) (any_left q x ys) there
+  where
+    left_by : (b c d : Bool) → (c ≡ true → d ≡ true) → b || c ≡ true → b || d ≡ true
+    left_by true c d rest there = refl
+    left_by false c d rest there = rest there
+
+any_last : (q : RowId) (ids : List RowId) → list_any (row_eq q) (ids ++ q ∷ []) ≡ true
+any_last q [] = ap (λ b. b || false) (row_itself q)
+any_last q (y ∷ ys) = ap (λ b. row_eq q y || b) (any_last q ys) ∙ or_true (row_eq q y)
+  where
+    or_true : (b : Bool) → b || true ≡ true
+    or_true true = refl
+    or_true false = refl
+
+stays_by : (q x : RowId) (ids : List RowId) (b : Bool) → list_any (row_eq q) ids ≡ true → list_any (row_eq q) (cond b ids (ids ++ x ∷ [])) ≡ true
+stays_by q x ids true there = there
+stays_by q x ids false there = any_left q x ids there
+
+enters_by : (q : RowId) (ids : List RowId) (b : Bool) → list_any (eq_by_cmp row_cmp q) ids ≡ b → list_any (row_eq q) (cond b ids (ids ++ q ∷ [])) ≡ true
+enters_by q ids true there = any_ties q ids ∙ there
+enters_by q ids false there = any_last q ids
+
+abbrev gather : List RowId → List Op → List RowId
+gather ids ops = fold (λ (ids : List RowId) (change : Op). with_id ids (id_of change)) ids ops
+
+stays : (q : RowId) (ops : List Op) (ids : List RowId) → list_any (row_eq q) ids ≡ true → list_any (row_eq q) (gather ids ops) ≡ true
+stays q [] ids there = there
+stays q (op ∷ ops) ids there =
+    stays q ops (with_id ids (id_of op)) (stays_by q (id_of op) ids (list_any (eq_by_cmp row_cmp (id_of op)) ids) there)
+
+all_named : (ops : List Op) (ids : List RowId) → list_all (λ op. list_any (row_eq (id_of op)) (gather ids ops)) ops ≡ true
+all_named [] ids = refl
+all_named (op ∷ ops) ids =
+    ap (λ b. b && list_all (λ o. list_any (row_eq (id_of o)) (gather (with_id ids (id_of op)) ops)) ops)
+    (stays (id_of op) ops (with_id ids (id_of op)) (enters_by (id_of op) ids (list_any (eq_by_cmp row_cmp (id_of op)) ids) refl))
+    ∙ all_named ops (with_id ids (id_of op))
+
+others_last : (x q : RowId) (ids : List RowId) → AllByRecursion (λ y. row_eq x y ≡ false) ids → row_eq x q ≡ false
+    → AllByRecursion (λ y. row_eq x y ≡ false) (ids ++ q ∷ [])
+others_last x q [] all other = (other, tt)
+others_last x q (y ∷ ys) all other = (all.0, others_last x q ys all.1 other)
+
+neither : (a b : Bool) → a || b ≡ false → (a ≡ false) × (b ≡ false)
+neither true b h = absurd (true≢false h)
+neither false b h = (refl, h)
+
+distinct_last : (q : RowId) (ids : List RowId) → IsDistinct row_eq ids → list_any (row_eq q) ids ≡ false → IsDistinct row_eq (ids ++ q ∷ [])
+unfolding IsDistinct
+distinct_last q [] apart none = (tt, tt)
+distinct_last q (y ∷ ys) apart none =
+    let both = neither (row_eq q y) (list_any (row_eq q) ys) none in
+    (others_last y q ys apart.0 (row_symmetric y q ∙ both.0), distinct_last q ys apart.1 both.1)
+
+distinct_by : (q : RowId) (ids : List RowId) (b : Bool) → list_any (eq_by_cmp row_cmp q) ids ≡ b → IsDistinct row_eq ids
+    → IsDistinct row_eq (cond b ids (ids ++ q ∷ []))
+distinct_by q ids true there apart = apart
+distinct_by q ids false there apart = distinct_last q ids apart (any_ties q ids ∙ there)
+
+all_distinct : (ops : List Op) (ids : List RowId) → IsDistinct row_eq ids → IsDistinct row_eq (gather ids ops)
+all_distinct [] ids apart = apart
+all_distinct (op ∷ ops) ids apart =
+    all_distinct ops (with_id ids (id_of op)) (distinct_by (id_of op) ids (list_any (eq_by_cmp row_cmp (id_of op)) ids) refl apart)
+
+none_distinct : IsDistinct row_eq []
+unfolding IsDistinct
+none_distinct = tt
+
+keys_imaged : (rows : Rows) (ids : List RowId) → keys_of (map {B = Image} (λ (id : RowId). (id, get rows id)) ids) ≡ ids
+keys_imaged rows [] = refl
+keys_imaged rows (id ∷ ids) = ap (λ rest. id ∷ rest) (keys_imaged rows ids)
+
+images_are : (ops : List Op) (rows : Rows) → AreImagesOf ops (images_of ops rows)
+unfolding named_rows
+images_are ops rows = record {
+  named = ap (λ ids. list_all (λ op. list_any (row_eq (id_of op)) ids) ops) (keys_imaged rows (gather [] ops)) ∙ all_named ops [];
+  once = subst (IsDistinct row_eq) (sym (keys_imaged rows (gather [] ops))) (all_distinct ops [] none_distinct);
+}
+
+pub given_images : (ops : List Op) (rows : Rows) (images : List Image) → images ≡ images_of ops rows → AreImagesOf ops images
+given_images ops rows images is = subst (AreImagesOf ops) (sym is) (images_are ops rows)
+
+-- as many as rows are named
+count_mapped : (rows : Rows) (ids : List RowId) → length (map {B = Image} (λ (id : RowId). (id, get rows id)) ids) ≡ length ids
+count_mapped rows [] = refl
+count_mapped rows (id ∷ ids) = ap (λ n. suc n) (count_mapped rows ids)
+
+pub count_images : (ops : List Op) (rows : Rows) → length (images_of ops rows) ≡ length (named_rows ops)
+count_images ops rows = count_mapped rows (named_rows ops)

@@ -1,0 +1,196 @@
+-- What aborting a session's transaction leaves of the parts of a node.
+use Rattle.std.proofs.Common.{◌≡◌, ℕ, ◌+◌, ◌≤◌, ◌<◌, Bool, true, false, cond, List, length, take, fold, get_or, refl, sym, ap, subst, ◌∙◌, arith}
+use Rattle.std.specs.Prelude.{Option, Some, None}
+use Rattle.std.proofs.lemmas.List.Sums.{fold_more}
+use Rattle.std.specs.Ordering.{nat_cmp, eq_by_cmp}
+use Rattle.std.specs.Cmp.{nat_cmp_total}
+use Rattle.finite_map.specs.FiniteMap.{FiniteMap, get, insert, remove, get-insert, get-remove}
+use Rattle.row_model.specs.declared.calls.Reply.{Reply}
+use Rattle.client_trx.specs.Live.{Live, has_locks, killed_in, killed_by}
+use Rattle.client_trx.specs.declared.status.Status.{Status}
+use Rattle.client_trx.specs.declared.status.Status.TheVariants as status
+use Rattle.client_trx.specs.declared.status.Outcome.{Outcome}
+use Rattle.client_trx.specs.declared.status.Outcome.TheVariants.{Lives, Ends}
+use Rattle.row_locks.specs.declared.holder.Holder.TheVariants.{Session}
+use Rattle.row_locks.specs.Locks.{LockState}
+use Rattle.undo_rows.specs.RowTable.{RowTable, without}
+use Rattle.node_parts.proofs.MapLaws.{same, removed_absent}
+use Rattle.node_meaning.specs.Node.{ModelNode, locks_of}
+use Rattle.node_meaning.specs.Steps.{told, killed_session, kill_session}
+use Rattle.node_meaning.proofs.LockLaws.{lock_keys, locks_of-remove, locks_of-unlocked}
+use Rattle.node_core.specs.declared.node.Node.{Node}
+use Rattle.node_core.specs.Tabled.{Tabled}
+use Rattle.node_core.specs.Stands.{plain_of}
+use Rattle.node_core.specs.Starting.{Aborts}
+use Rattle.node_core.proofs.Tabling.{tabled-ended, tabled-unlocked}
+
+-- ---- what becomes of the transaction
+killed_idle : (t : Live) (st : Status) (n : ℕ) → has_locks st ≡ false → killed_in st n t ≡ (Lives, t)
+killed_idle t status.Running n none = absurd cc
+killed_idle t status.FragmentSent n none = absurd cc
+killed_idle t status.CommitSent n none = absurd cc
+killed_idle t (status.Certified m) n none = absurd cc
+killed_idle t status.KilledSent n none = refl
+killed_idle t (status.Replaying m) n none = refl
+
+outcome_of : (o p : Outcome) (t u : Live) → ◌≡◌ {A = Outcome × Live} (o, t) (p, u) → o ≡ p
+outcome_of o p t u is = ap (λ (r : Outcome × Live). r.0) is
+
+trx_of : (o p : Outcome) (t u : Live) → ◌≡◌ {A = Outcome × Live} (o, t) (p, u) → t ≡ u
+trx_of o p t u is = ap (λ (r : Outcome × Live). r.1) is
+
+lives_not : (t u : Live) (r : Reply) → ◌≡◌ {A = Outcome × Live} (Lives, u) (Ends r, t) → ⊥
+lives_not t u r is = let outcome = ap (λ (r : Outcome × Live). r.0) is in cc
+
+killed_unlocked : (t u : Live) (st : Status) (n : ℕ) → has_locks st ≡ true → (Lives, u) ≡ killed_in st n t → has_locks u.status ≡ false
+killed_unlocked t u status.Running n locks is = absurd (lives_not t u _ is)
+killed_unlocked t u status.FragmentSent n locks is = absurd (lives_not t u _ is)
+killed_unlocked t u status.CommitSent n locks is = ap (λ (l : Live). has_locks l.status) (trx_of Lives Lives u _ is)
+killed_unlocked t u (status.Certified m) n locks is = ap (λ (l : Live). has_locks l.status) (trx_of Lives Lives u _ is)
+killed_unlocked t u status.KilledSent n locks is = absurd cc
+killed_unlocked t u (status.Replaying m) n locks is = absurd cc
+
+-- ---- put back after it was taken
+put_cond : (b : Bool) (u : Live) (o : Option Live) → cond b (Some u) (cond b None o) ≡ cond b (Some u) o
+put_cond true u o = refl
+put_cond false u o = refl
+
+put_back : (live : FiniteMap nat_cmp Live) (s : ℕ) (u : Live) → insert (remove live s) s u ≡ insert live s u
+put_back live s u =
+    same (insert (remove live s) s u) (insert live s u) (λ q.
+    get-insert nat_cmp_total (remove live s) s u q
+    ∙ ap (λ o. cond (eq_by_cmp nat_cmp q s) (Some u) o) (get-remove nat_cmp_total live s q)
+    ∙ put_cond (eq_by_cmp nat_cmp q s) u (get live q)
+    ∙ sym (get-insert nat_cmp_total live s u q))
+
+-- ---- the three cases
+pub kill_none : (old : Node) (live : FiniteMap nat_cmp Live) (number s : ℕ) → get old.live s ≡ None → live ≡ remove old.live s
+    → Aborts (λ n. kill_session number n s) old (record old { live = live })
+kill_none old live number s none taken =
+    let still : live ≡ old.live = taken ∙ removed_absent old.live s none in
+    record {
+      plain = ap (λ (m : FiniteMap nat_cmp Live). record (plain_of old) { live = m }) still
+          ∙ ap (killed_session number (plain_of old) s) (sym none);
+      at = refl;
+      inbox = refl;
+      fold = refl;
+      passed = refl;
+      units = refl;
+      spare = omega arith;
+      room = omega arith;
+      locks = λ older is. is ∙ ap (λ (m : FiniteMap nat_cmp Live). locks_of m older) (sym still);
+      rows = λ rows tabled. subst (λ (m : FiniteMap nat_cmp Live). Tabled rows m old.rows) (sym still) tabled;
+    }
+
+module _ (old : Node) (number s : ℕ) (t : Live) (locks : LockState) (rows : RowTable) (there : get old.live s ≡ Some t)
+    (released : locks.locks ≡ remove old.locks.locks (Session s)) (spare : old.locks.spare ≤ locks.spare)
+    (committed : rows.committed ≡ old.rows.committed) (changes : rows.changes ≡ without old.rows.changes s)
+    (room : old.rows.spare ≤ rows.spare) where
+  lives : (u : Live) (live : FiniteMap nat_cmp Live) → has_locks u.status ≡ false → live ≡ insert old.live s u
+      → (Lives, u) ≡ killed_by number t
+      → Aborts (λ n. kill_session number n s) old (record old { live = live; locks = locks; rows = rows })
+  lives u live none put is = record {
+    plain = ap (λ (m : FiniteMap nat_cmp Live). record (plain_of old) { live = m }) put
+        ∙ ap (told (plain_of old) s) is ∙ ap (killed_session number (plain_of old) s) (sym there);
+    at = refl;
+    inbox = refl;
+    fold = refl;
+    passed = refl;
+    units = refl;
+    spare = spare;
+    room = room;
+    locks = λ older same.
+        released ∙ ap (λ m. remove m (Session s)) same
+        ∙ sym (locks_of-unlocked old.live older s u (ap (λ b. lock_keys b u.keys) none))
+        ∙ ap (λ (m : FiniteMap nat_cmp Live). locks_of m older) (sym put);
+    rows = λ base tabled.
+        subst (λ (m : FiniteMap nat_cmp Live). Tabled base m rows) (sym put)
+        (tabled-unlocked base old.live old.rows rows tabled s u none committed changes);
+  }
+
+  -- it has no locks, and stays as it is
+  pub kill_idle : (live : FiniteMap nat_cmp Live) → has_locks t.status ≡ false → live ≡ insert (remove old.live s) s t
+      → Aborts (λ n. kill_session number n s) old (record old { live = live; locks = locks; rows = rows })
+  kill_idle live none put = lives t live none (put ∙ put_back old.live s t) (sym (killed_idle t t.status number none))
+
+  -- it loses its locks
+  pub kill_lives : (u : Live) (live : FiniteMap nat_cmp Live) → has_locks t.status ≡ true → live ≡ insert (remove old.live s) s u
+      → (o : Outcome) → o ≡ Lives → (o, u) ≡ killed_by number t
+      → Aborts (λ n. kill_session number n s) old (record old { live = live; locks = locks; rows = rows })
+  kill_lives u live has put o is by =
+      let killed : ◌≡◌ {A = Outcome × Live} (Lives, u) (killed_by number t) = ap (λ (p : Outcome). (p, u)) (sym is) ∙ by in
+      lives u live (killed_unlocked t u t.status number has killed) (put ∙ put_back old.live s u) killed
+
+  -- it ends
+  pub kill_ends : (u : Live) (reply : Reply) (live : FiniteMap nat_cmp Live) (waiting : FiniteMap nat_cmp Reply) → live ≡ remove old.live s
+      → waiting ≡ insert old.waiting s reply → (o : Outcome) → o ≡ Ends reply → (o, u) ≡ killed_by number t
+      → Aborts (λ n. kill_session number n s) old (record old { live = live; waiting = waiting; locks = locks; rows = rows })
+  kill_ends u reply live waiting gone told_so o is by =
+      let killed : ◌≡◌ {A = Outcome × Live} (Ends reply, u) (killed_by number t) = ap (λ (p : Outcome). (p, u)) (sym is) ∙ by in
+      record {
+        plain = ap (λ (m : FiniteMap nat_cmp Live). record (plain_of old) { live = m; waiting = waiting }) gone
+            ∙ ap (λ (w : FiniteMap nat_cmp Reply). record (plain_of old) { live = remove old.live s; waiting = w }) told_so
+            ∙ ap (told (plain_of old) s) killed ∙ ap (killed_session number (plain_of old) s) (sym there);
+        at = refl;
+        inbox = refl;
+        fold = refl;
+        passed = refl;
+        units = refl;
+        spare = spare;
+        room = room;
+        locks = λ older same.
+            released ∙ ap (λ m. remove m (Session s)) same ∙ sym (locks_of-remove old.live older s)
+            ∙ ap (λ (m : FiniteMap nat_cmp Live). locks_of m older) (sym gone);
+        rows = λ base tabled.
+            subst (λ (m : FiniteMap nat_cmp Live). Tabled base m rows) (sym gone)
+            (tabled-ended base old.live old.rows rows tabled s committed changes);
+      }
+
+-- ---- one after another
+pub no_aborts : (node : Node) → Aborts (λ n. n) node node
+no_aborts node = record {
+  plain = refl;
+  at = refl;
+  inbox = refl;
+  fold = refl;
+  passed = refl;
+  units = refl;
+  spare = omega arith;
+  room = omega arith;
+  locks = λ older is. is;
+  rows = λ rows tabled. tabled;
+}
+
+pub more_aborts : (f g : ModelNode → ModelNode) (a b c : Node) → Aborts f a b → Aborts g b c → Aborts (λ n. g (f n)) a c
+more_aborts f g a b c one two = record {
+  plain = two.plain ∙ ap g one.plain;
+  at = two.at ∙ one.at;
+  inbox = two.inbox ∙ one.inbox;
+  fold = two.fold ∙ one.fold;
+  passed = two.passed ∙ one.passed;
+  units = two.units ∙ one.units;
+  spare = omega (arith, one.spare, two.spare);
+  room = omega (arith, one.room, two.room);
+  locks = λ older is. two.locks older (one.locks older is);
+  rows = λ rows tabled. two.rows rows (one.rows rows tabled);
+}
+
+-- one more of the sessions
+pub kills_more : (number : ℕ) (sessions : List ℕ) (i d : ℕ) (a b c : Node) → i < length sessions
+    → Aborts (λ n. fold (kill_session number) n (take i sessions)) a b
+    → Aborts (λ n. kill_session number n (get_or sessions i d)) b c
+    → Aborts (λ n. fold (kill_session number) n (take (i + 1) sessions)) a c
+kills_more number sessions i d a b c below so_far one =
+    let both = more_aborts (λ n. fold (kill_session number) n (take i sessions)) (λ n. kill_session number n (get_or sessions i d)) a b c so_far one in
+    record {
+      plain = both.plain ∙ sym (fold_more (kill_session number) (plain_of a) sessions i d below);
+      at = both.at;
+      inbox = both.inbox;
+      fold = both.fold;
+      passed = both.passed;
+      units = both.units;
+      spare = both.spare;
+      room = both.room;
+      locks = both.locks;
+      rows = both.rows;
+    }

@@ -1,0 +1,181 @@
+-- Starting a unit: which step it is by what was read, and the task that it gives.
+use Rattle.std.proofs.Common.{◌≡◌, ℕ, ◌≤◌, ◌<◌, Bool, true, false, cond, List, [], ◌∷◌, length, Option, Some, None, refl, sym, ap, subst, ◌∙◌, arith, true≢false, lt-ltb, eqb-true}
+use Rattle.std.specs.Prelude.{is_some, nat_lt, ◌==◌, unwrap_or}
+use Rattle.std.specs.List.{filter}
+use Rattle.finite_map.specs.FiniteMap.{get}
+use Rattle.wsrep_base.specs.Trx.{greatest}
+use Rattle.key_sets.specs.Keys.{Keys}
+use Rattle.row_model.specs.declared.ops.Op.{Op}
+use Rattle.order_event.specs.declared.event.Event.{Event}
+use Rattle.order_event.specs.declared.step.Answer.{Answer}
+use Rattle.order_event.specs.declared.step.Answer.TheVariants as answer
+use Rattle.cert_meaning.specs.declared.items.CommitItem.{CommitItem}
+use Rattle.cert_meaning.specs.State.{FoldState, RiseWithin, commit_numbered}
+use Rattle.cert_meaning.specs.Fold.{state_at}
+use Rattle.cert_meaning.proofs.CommitLaws.{commits-rise}
+use Rattle.apply_unit.specs.Results.{Image}
+use Rattle.apply_unit.specs.Task.{ModelTask, task}
+use Rattle.node_meaning.specs.Node.{ModelNode, ApplyUnit, ahead, passed_at, rows_at}
+use Rattle.node_meaning.specs.Steps.{is_local, touching_before, start_after, start_unit, start_step}
+use Rattle.node_meaning.specs.Units.{ops_at, images_of, unit_task}
+use Rattle.node_meaning.proofs.PassedLaws.{passed-committed, from_passed, none_touching}
+use Rattle.node_meaning.proofs.UnitLaws.{task-clear}
+use Rattle.node_core.specs.declared.node.Node.{Node}
+use Rattle.node_core.specs.Stands.{Stands, DoneOver, plain_of}
+use Rattle.node_core.specs.Starting.{CanStart, Rise, unit_started}
+
+-- ---- the task
+pub task_given : (order : List Event) (node : Node) (number : ℕ) (keys : Keys) (ops : List Op) (images : List Image) (made : ModelTask)
+    → CanStart order node number keys → ops ≡ unwrap_or (get node.passed.ops number) [] → images ≡ images_of ops node.rows.committed
+    → made ≡ task number ops images → made ≡ unit_task order number
+task_given order node number keys ops images made can changes rows is =
+    let kept = can.stands.passed.kept number can.above can.within (ap is_some can.is_commit) in
+    let own : ops ≡ ops_at order number = changes ∙ ap (λ (o : Option (List Op)). unwrap_or o []) kept in
+    let facts = can.stands.facts.in_order in
+    is ∙ ap (task number ops) rows
+    ∙ ap (λ r. task number ops (images_of ops r)) can.stands.tables.rows.committed
+    ∙ ap (λ (os : List Op). task number os (images_of os (rows_at order node.at.committed))) own
+    ∙ sym (task-clear order node.at.committed number (record { number = can.label; trx = can.trx; keys = keys })
+    (omega (arith, can.within, facts.certified_fits, facts.taken_fits)) can.above can.is_commit can.clear)
+
+pub ops_given : (order : List Event) (node : Node) (number : ℕ) (keys : Keys) (ops : List Op)
+    → CanStart order node number keys → ops ≡ unwrap_or (get node.passed.ops number) [] → ops ≡ ops_at order number
+ops_given order node number keys ops can changes =
+    changes ∙ ap (λ (o : Option (List Op)). unwrap_or o []) (can.stands.passed.kept number can.above can.within (ap is_some can.is_commit))
+
+-- ---- what was read
+skipped : (committed number : ℕ) (c : CommitItem) (cs : List CommitItem) (a t : Bool) → nat_lt committed c.number ≡ a → (c.number == number) ≡ t
+    → committed < number → commit_numbered number (filter (λ (d : CommitItem). nat_lt committed d.number) cs) ≡ commit_numbered number cs
+    → commit_numbered number (cond a (c ∷ filter (λ (d : CommitItem). nat_lt committed d.number) cs) (filter (λ (d : CommitItem). nat_lt committed d.number) cs))
+    ≡ cond t (Some c) (commit_numbered number cs)
+skipped committed number c cs true t above tie after rest =
+    ap (λ b. cond b (Some c) (commit_numbered number (filter (λ (d : CommitItem). nat_lt committed d.number) cs))) tie
+    ∙ ap (cond t (Some c)) rest
+skipped committed number c cs false false above tie after rest = rest
+skipped committed number c cs false true above tie after rest =
+    absurd (true≢false (sym (lt-ltb committed c.number (subst (λ m. committed < m) (sym (eqb-true c.number number tie)) after)) ∙ above))
+
+numbered_ahead : (committed number : ℕ) (cs : List CommitItem) → committed < number
+    → commit_numbered number (filter (λ (d : CommitItem). nat_lt committed d.number) cs) ≡ commit_numbered number cs
+numbered_ahead committed number [] after = refl
+numbered_ahead committed number (c ∷ cs) after =
+    skipped committed number c cs (nat_lt committed c.number) (c.number == number) refl refl after (numbered_ahead committed number cs after)
+
+-- the newest of some commits in the way of a unit
+abbrev pub sought_in : ℕ → ℕ → Keys → List CommitItem → Option ℕ
+sought_in committed number keys commits = greatest (touching_before (filter (λ c. nat_lt committed c.number) commits) number keys)
+
+-- the node stands as it did
+stays : (order : List Event) (node : Node) (number : ℕ) (a : Answer) → Stands order node → (a, plain_of node) ≡ start_step order (plain_of node) number
+    → DoneOver order (λ n. start_step order n number) node node a
+stays order node number a stands same = record { same = same; stands = stands }
+
+module _ (order : List Event) (node : Node) (number : ℕ) (stands : Stands order node) where
+  abbrev n : ModelNode
+  n = plain_of node
+
+  step_by : (o : Option CommitItem) → passed_at order node.at.committed node.at.certified number ≡ o → start_step order n number ≡ start_unit order n number o
+  unfolding start_step
+  step_by o is = ap (start_unit order n number) is
+
+  no_unit_by : (o : Option CommitItem) (there : Bool) → is_some (get node.units.units number) ≡ there → there ≡ true
+      → (answer.NoUnit number, n) ≡ start_unit order n number o
+  no_unit_by None there is yes_there = refl
+  no_unit_by (Some commit) there is yes_there =
+      sym (ap (λ b. cond {A = Answer × ModelNode} b (answer.NoUnit number, n)
+      (cond {A = Answer × ModelNode} (is_local node.live number) (answer.Local number, n)
+      (start_after n number commit.keys (greatest (touching_before (ahead order node.at.committed node.at.certified) number commit.keys)))))
+      (is ∙ yes_there))
+
+  pub start_committed : number ≤ node.at.committed → DoneOver order (λ n. start_step order n number) node node (answer.NoUnit number)
+  start_committed done =
+      stays order node number (answer.NoUnit number) stands
+      (sym (step_by None (passed-committed order node.at.committed node.at.certified number done)))
+
+  pub start_again : is_some (get node.units.units number) ≡ true → DoneOver order (λ n. start_step order n number) node node (answer.NoUnit number)
+  start_again there =
+      stays order node number (answer.NoUnit number) stands
+      (no_unit_by (passed_at order node.at.committed node.at.certified number) (is_some (get node.units.units number)) refl there
+      ∙ sym (step_by (passed_at order node.at.committed node.at.certified number) refl))
+
+  module _ (above : node.at.committed < number) where
+    read_is : passed_at order node.at.committed node.at.certified number ≡ commit_numbered number node.fold.commits
+    read_is =
+        numbered_ahead node.at.committed number (state_at order node.at.certified).commits above
+        ∙ ap (λ (s : FoldState). commit_numbered number s.commits) (sym stands.fold)
+
+    pub start_nothing : commit_numbered number node.fold.commits ≡ None → DoneOver order (λ n. start_step order n number) node node (answer.NoUnit number)
+    start_nothing none = stays order node number (answer.NoUnit number) stands (sym (step_by None (read_is ∙ none)))
+
+    module _ (commit : CommitItem) (found : commit_numbered number node.fold.commits ≡ Some commit)
+        (fresh : is_some (get node.units.units number) ≡ false) where
+      step_is : start_step order n number
+          ≡ cond {A = Answer × ModelNode} (is_local node.live number) (answer.Local number, n)
+          (start_after n number commit.keys (greatest (touching_before (ahead order node.at.committed node.at.certified) number commit.keys)))
+      step_is =
+          step_by (Some commit) (read_is ∙ found)
+          ∙ ap (λ b. cond {A = Answer × ModelNode} b (answer.NoUnit number, n)
+          (cond {A = Answer × ModelNode} (is_local node.live number) (answer.Local number, n)
+          (start_after n number commit.keys (greatest (touching_before (ahead order node.at.committed node.at.certified) number commit.keys)))))
+          fresh
+
+      pub start_local : is_local node.live number ≡ true → DoneOver order (λ n. start_step order n number) node node (answer.Local number)
+      start_local here =
+          stays order node number (answer.Local number) stands
+          (sym (step_is ∙ ap (λ b. cond {A = Answer × ModelNode} b (answer.Local number, n)
+          (start_after n number commit.keys (greatest (touching_before (ahead order node.at.committed node.at.certified) number commit.keys)))) here))
+
+      module _ (remote : is_local node.live number ≡ false) (way : Option ℕ)
+          (seen : way ≡ greatest (touching_before (filter (λ (c : CommitItem). nat_lt node.at.committed c.number) node.fold.commits) number commit.keys)) where
+        way_is : greatest (touching_before (ahead order node.at.committed node.at.certified) number commit.keys) ≡ way
+        way_is =
+            ap (λ (s : FoldState). greatest (touching_before (filter (λ (c : CommitItem). nat_lt node.at.committed c.number) s.commits) number commit.keys)) (sym stands.fold)
+            ∙ sym seen
+
+        after_is : start_step order n number ≡ start_after n number commit.keys way
+        after_is =
+            step_is
+            ∙ ap (λ b. cond {A = Answer × ModelNode} b (answer.Local number, n)
+            (start_after n number commit.keys (greatest (touching_before (ahead order node.at.committed node.at.certified) number commit.keys)))) remote
+            ∙ ap (start_after n number commit.keys) way_is
+
+        pub start_later : (earlier : ℕ) → way ≡ Some earlier → DoneOver order (λ n. start_step order n number) node node (answer.NotYet earlier)
+        start_later earlier is =
+            stays order node number (answer.NotYet earlier) stands (sym (after_is ∙ ap (start_after n number commit.keys) is))
+
+        none_from : (o : Option ApplyUnit) → is_some o ≡ false → o ≡ None
+        none_from None h = refl
+        none_from (Some u) h = absurd (true≢false h)
+
+        certified_inside : node.at.certified ≤ length order
+        certified_inside = omega (arith, stands.facts.in_order.certified_fits, stands.facts.in_order.taken_fits)
+
+        pub can_start : way ≡ None → CanStart order node number commit.keys
+        can_start none =
+            let passed = from_passed order node.at.committed node.at.certified number commit certified_inside (read_is ∙ found) in
+            record {
+              stands = stands;
+              above = above;
+              within = passed.within;
+              label = commit.number;
+              trx = commit.trx;
+              is_commit = passed.is_commit;
+              fresh = none_from (get node.units.units number) fresh;
+              remote = remote;
+              clear = none_touching order node.at.committed node.at.certified number commit.keys certified_inside passed.within (way_is ∙ none);
+            }
+
+        pub start_done : way ≡ None → (after : Node) (a : Answer) → DoneOver order (unit_started number commit.keys) node after a
+            → DoneOver order (λ n. start_step order n number) node after a
+        start_done none after a done = record {
+          same = done.same ∙ sym (after_is ∙ ap (start_after n number commit.keys) none);
+          stands = done.stands;
+        }
+
+-- the numbers of the commits that a node keeps rise
+pub commits_rise : (order : List Event) (node : Node) → Stands order node → Rise node.fold.commits
+commits_rise order node stands = (
+  node.at.certified,
+  subst (λ (s : FoldState). RiseWithin 0 node.at.certified s.commits) (sym stands.fold)
+      (commits-rise order node.at.certified (omega (arith, stands.facts.in_order.certified_fits, stands.facts.in_order.taken_fits))),
+)

@@ -1,0 +1,441 @@
+-- What a statement meets, and what it leaves of a node.
+use Rattle.std.proofs.Common.{◌≡◌, ◌≤◌, ℕ, ◌+◌, Bool, true, false, cond, List, [], ◌∷◌, ◌++◌, Result, Ok, Err, refl, sym, ap, subst, ◌∙◌, arith, true≢false}
+use Rattle.std.specs.Prelude.{Option, Some, None, IfOk, OnErr, IfSome, IsTrue, option_map, is_some, not, nat_lt, ◌||◌}
+use Rattle.std.specs.Ordering.{nat_cmp, eq_by_cmp}
+use Rattle.std.specs.Cmp.{nat_cmp_total}
+use Rattle.std.specs.FinMap.{nat_cmp-IsAntisymmetric}
+use Rattle.finite_map.specs.FiniteMap.{FiniteMap, get, empty, insert, remove, get-empty, get-insert, get-remove, same_map}
+use Rattle.key_sets.specs.declared.kind.Kind.{Kind}
+use Rattle.key_sets.specs.declared.parts.Parts.{Parts}
+use Rattle.key_sets.specs.Parts.{parts_cmp}
+use Rattle.key_sets.specs.Kinds.{raised}
+use Rattle.key_sets.specs.Keys.{Keys, with_key, one_key}
+use Rattle.row_model.specs.declared.row.RowId.{RowId}
+use Rattle.row_model.specs.declared.ops.Op.{Op}
+use Rattle.row_model.specs.declared.ops.Op.TheVariants as op
+use Rattle.row_model.specs.declared.calls.Reply.{Reply}
+use Rattle.row_model.specs.declared.calls.Reply.TheVariants as reply
+use Rattle.order_event.specs.declared.event.Event.{Event}
+use Rattle.write_set.specs.Rules.{row_parts}
+use Rattle.cert_meaning.specs.Verdict.{held_by}
+use Rattle.cert_meaning.specs.Fold.{state_at}
+use Rattle.client_trx.specs.Live.{Live, add_by, added_unless, is_due, is_too_large, has_locks}
+use Rattle.client_trx.specs.KeyedOps.{IsKeyOf, with_op}
+use Rattle.client_trx.specs.declared.status.Added.TheVariants as added
+use Rattle.client_trx.specs.declared.status.Added.{Added}
+use Rattle.row_locks.specs.declared.holder.Holder.{Holder}
+use Rattle.row_locks.specs.declared.holder.Holder.TheVariants.{Session}
+use Rattle.row_locks.specs.Locks.{blocker, granted, granted_unless}
+use Rattle.undo_rows.specs.RowTable.{written, written_unless}
+use Rattle.row_model.specs.Rows.{id_of}
+use Rattle.row_model.specs.declared.calls.Call.{Call}
+use Rattle.node_meaning.specs.Node.{ModelNode, is_left, is_joining, rows_at, seen_rows, locks_of, set_live}
+use Rattle.node_meaning.specs.Client as client
+use Rattle.node_meaning.specs.Client.{first_line, where_true, refusal, met_by, extended, statement, statement_by, accepted_reply, is_pending}
+use Rattle.node_meaning.proofs.EntryLaws.{number-exact}
+use Rattle.node_core.specs.declared.node.Node.{Node}
+use Rattle.node_core.specs.declared.refusal.Met.{Met}
+use Rattle.node_core.specs.Client.{hindrance, of_row, closed_by}
+use Rattle.node_core.specs.Statement.{met_at, told_and_put, changes_after}
+use Rattle.node_core.specs.Tabled.{Tabled}
+use Rattle.node_meaning.specs.Facts.{Facts}
+use Rattle.node_meaning.proofs.ClientFacts.{StatementFits, statement_keeps, told_keeps}
+use Rattle.node_meaning.proofs.LockLaws.{locks_of-with_lock}
+use Rattle.node_core.proofs.Tabling.{tabled-same}
+use Rattle.node_core.proofs.TabledWrites.{tabled-written, free_row, key_changes}
+use Rattle.node_core.specs.Stands.{Stands, Does, DoneOver, AreWorked, Unchanged, plain_of}
+use Rattle.node_core.proofs.ClientCalls.{sees, stands_by, unchanged_stands, running_locks}
+
+pub no_both : (b : Bool) → b ≡ true → b ≡ false → ⊥
+no_both true t f = absurd (true≢false f)
+no_both false t f = absurd (true≢false (sym t))
+
+same_some : {A : Type 0} (a b : A) → Some a ≡ Some b → a ≡ b
+same_some a b e = cc
+
+some_none : {A : Type 0} (a : A) → Some a ≡ None → ⊥
+some_none a e = cc
+
+-- a key that is added to no keys
+pub one_more : (none keys : Keys) (p : Parts) (k : Kind) → none ≡ empty → keys ≡ with_key none p k → keys ≡ one_key p k
+unfolding with_key
+one_more none keys p k is added =
+    added ∙ ap (λ all. with_key all p k) is ∙ ap (λ o. insert empty p (raised o k)) (get-empty parts_cmp p)
+
+-- ---- results
+pub ok_map : {A E : Type 0} (P Q : A → Type 0) (r : Result A E) → ((x : A) → P x → Q x) → IfOk r P → IfOk r Q
+ok_map P Q (Ok x) f h = f x h
+ok_map P Q (Err e) f h = tt
+
+pub err_map : {A E : Type 0} (P Q : Type 0) (r : Result A E) → (P → Q) → OnErr r P → OnErr r Q
+err_map P Q (Ok x) f h = tt
+err_map P Q (Err e) f h = f h
+
+-- ---- a session's entry
+module _ {X : Type 0} (m : FiniteMap nat_cmp X) (s : ℕ) where
+  pub remove_absent : get m s ≡ None → remove m s ≡ m
+  remove_absent none =
+      same_map nat_cmp_total nat_cmp-IsAntisymmetric (remove m s) m
+      (λ q. get-remove nat_cmp_total m s q ∙ by q (eq_by_cmp nat_cmp q s) refl)
+    where
+      by : (q : ℕ) (b : Bool) → eq_by_cmp nat_cmp q s ≡ b → cond b None (get m q) ≡ get m q
+      by q true tie = sym (ap (get m) (number-exact q s tie) ∙ none)
+      by q false other = refl
+
+  pub put_after_take : (x : X) → insert (remove m s) s x ≡ insert m s x
+  put_after_take x =
+      same_map nat_cmp_total nat_cmp-IsAntisymmetric (insert (remove m s) s x) (insert m s x)
+      (λ q. get-insert nat_cmp_total (remove m s) s x q
+      ∙ ap (cond (eq_by_cmp nat_cmp q s) (Some x)) (get-remove nat_cmp_total m s q)
+      ∙ by (eq_by_cmp nat_cmp q s) (get m q)
+      ∙ sym (get-insert nat_cmp_total m s x q))
+    where
+      by : (b : Bool) (o : Option X) → cond b (Some x) (cond b None o) ≡ cond b (Some x) o
+      by true o = refl
+      by false o = refl
+
+  pub put_same : (x : X) → get m s ≡ Some x → insert m s x ≡ m
+  put_same x is =
+      same_map nat_cmp_total nat_cmp-IsAntisymmetric (insert m s x) m
+      (λ q. get-insert nat_cmp_total m s x q ∙ by q (eq_by_cmp nat_cmp q s) refl)
+    where
+      by : (q : ℕ) (b : Bool) → eq_by_cmp nat_cmp q s ≡ b → cond b (Some x) (get m q) ≡ get m q
+      by q true tie = sym (ap (get m) (number-exact q s tie) ∙ is)
+      by q false other = refl
+
+-- ---- the transaction is taken out and put back
+pub extended_told : (node : Node) (s : ℕ) (trx t new : Live) (live : FiniteMap nat_cmp Live) (told : Added) (p : Parts) (k : Kind)
+    (o : Option Op) → Some trx ≡ get node.live s → get node.live s ≡ Some t → (told, new) ≡ add_by trx p k o
+    → live ≡ insert (remove node.live s) s new
+    → (told, record node { live = live }) ≡ told_and_put node s (add_by t p k o)
+extended_told node s trx t new live told p k o mine there both live_is =
+    let same : trx ≡ t = same_some trx t (mine ∙ there) in
+    let all : (told, new) ≡ add_by t p k o = both ∙ ap (λ t. add_by t p k o) same in
+    ap (λ l. (told, record node { live = l })) (live_is ∙ put_after_take node.live s new) ∙ ap (told_and_put node s) all
+
+pub put_back : (node : Node) (s : ℕ) (trx new : Live) (live : FiniteMap nat_cmp Live) → Some trx ≡ get node.live s → new ≡ trx
+    → live ≡ insert (remove node.live s) s new → record node { live = live } ≡ node
+put_back node s trx new live mine same live_is =
+    ap (λ l. record node { live = l })
+    (live_is ∙ put_after_take node.live s new ∙ ap (insert node.live s) same ∙ put_same node.live s trx (sym mine))
+
+-- ---- why a statement is refused
+more_or_none : (o : Option Reply) (large : Option Reply)
+    → first_line (o ∷ large ∷ []) ≡ first_line (first_line (o ∷ []) ∷ large ∷ [])
+more_or_none None large = refl
+more_or_none (Some why) large = refl
+
+-- a refusal is what hinders the statement, and else its transaction's size
+refusal-split : (held : Option ℕ) (other : Option Holder) (row : Option (List ℕ)) (large : Bool) (change : Option Op)
+    → refusal (record { held = held; blocker = other; row = row; large = large }) change
+    ≡ first_line (hindrance held other row change ∷ where_true large reply.TooLarge ∷ [])
+refusal-split (Some n) other row large change = refl
+refusal-split None (Some h) row large change = refl
+refusal-split None None None large None = refl
+refusal-split None None None large (Some (op.Insert id values)) = refl
+refusal-split None None None large (Some (op.Update id change)) = refl
+refusal-split None None None large (Some (op.Delete id)) = refl
+refusal-split None None (Some row) large None = refl
+refusal-split None None (Some row) large (Some (op.Insert id values)) = refl
+refusal-split None None (Some row) large (Some (op.Update id change)) =
+    more_or_none (option_map reply.NoColumn (client.missing_column (Some (op.Update id change)) (Some row))) (where_true large reply.TooLarge)
+refusal-split None None (Some row) large (Some (op.Delete id)) = refl
+
+abbrev pub asked_for : RowId → Kind → Option Op → client.Statement
+asked_for id kind change = record { id = id; kind = kind; change = change }
+
+module _ (order : List Event) (node : Node) (session : ℕ) (id : RowId) (kind : Kind) (change : Option Op) (t : Live)
+    (is : get node.live session ≡ Some t) (free : is_pending (Some t) ≡ false) (st : Stands order node) where
+  -- what the parts show is what the model's statement meets
+  held_same : (met_at node session id kind t).held ≡ (met_by order (plain_of node) session t (asked_for id kind change)).held
+  held_same = ap (λ s. held_by s t.trx (one_key (row_parts id) kind)) st.fold
+
+  pub blocker_same : (met_at node session id kind t).blocker ≡ (met_by order (plain_of node) session t (asked_for id kind change)).blocker
+  blocker_same = ap (λ l. blocker l (Session session) (row_parts id) kind) st.tables.locks
+
+  pub row_same : (met_at node session id kind t).row ≡ (met_by order (plain_of node) session t (asked_for id kind change)).row
+  row_same = sees (rows_at order node.at.committed) node.live node.rows st.tables.rows session id (Some t) is free
+
+  pub refusal_is : refusal (met_by order (plain_of node) session t (asked_for id kind change)) change
+      ≡ first_line (hindrance (met_at node session id kind t).held (met_at node session id kind t).blocker
+      (met_at node session id kind t).row change
+      ∷ where_true (is_too_large (extended t (asked_for id kind change))) reply.TooLarge ∷ [])
+  refusal_is =
+      let met = met_by order (plain_of node) session t (asked_for id kind change) in
+      refusal-split met.held met.blocker met.row met.large change
+      ∙ (λ i. first_line (hindrance (sym held_same i) (sym blocker_same i) (sym row_same i) change
+      ∷ where_true (is_too_large (extended t (asked_for id kind change))) reply.TooLarge ∷ []))
+
+-- what is met is what the parts show
+pub met_is : (node : Node) (session : ℕ) (id : RowId) (kind : Kind) (o : Option Live) (m : Met)
+    → Some m ≡ option_map (met_at node session id kind) o → (t : Live) → o ≡ Some t → m ≡ met_at node session id kind t
+met_is node session id kind o m met t is =
+    same_some m (met_at node session id kind t) (met ∙ ap (option_map (met_at node session id kind)) is)
+
+refused_by : (order : List Event) (node : Node) (session : ℕ) (id : RowId) (kind : Kind) (change : Option Op) (t : Live)
+    → get node.live session ≡ Some t → is_pending (Some t) ≡ false → (m : Met) → m ≡ met_at node session id kind t
+    → (why : Reply) → hindrance m.held m.blocker m.row change ≡ Some why → Stands order node
+    → DoneOver order (λ n. statement order n session (get n.live session) (asked_for id kind change)) node node why
+refused_by order node session id kind change t is free m met why refused st =
+    let asked = asked_for id kind change in
+    let by : refusal (met_by order (plain_of node) session t asked) change ≡ Some why =
+    refusal_is order node session id kind change t is free st
+    ∙ ap (λ (m : Met). first_line (hindrance m.held m.blocker m.row change ∷ where_true (is_too_large (extended t asked)) reply.TooLarge ∷ [])) (sym met)
+    ∙ ap (λ h. first_line (h ∷ where_true (is_too_large (extended t asked)) reply.TooLarge ∷ [])) refused in
+    record {
+      same =
+          ap (λ r. statement_by r (plain_of node) (
+            accepted_reply (met_by order (plain_of node) session t asked).row change,
+            set_live (plain_of node) session (extended t asked),
+          )) (sym by)
+          ∙ ap (λ o. statement order (plain_of node) session o asked) (sym is);
+      stands = st;
+    }
+
+pub refused : (order : List Event) (node : Node) (session : ℕ) (id : RowId) (kind : Kind) (change : Option Op) (o : Option Live)
+    → get node.live session ≡ o → is_pending o ≡ false → (m : Met) → Some m ≡ option_map (met_at node session id kind) o
+    → (why : Reply) → hindrance m.held m.blocker m.row change ≡ Some why → Stands order node
+    → DoneOver order (λ n. statement order n session (get n.live session) (asked_for id kind change)) node node why
+refused order node session id kind change None is free m met why hindered st = absurd (some_none m met)
+refused order node session id kind change (Some t) is free m met why hindered st =
+    refused_by order node session id kind change t is free m (met_is node session id kind (Some t) m met t refl) why hindered st
+
+-- ---- a statement that nothing hinders but its transaction's size
+pub unhindered : (held : Option ℕ) (other : Option Holder) (row : Option (List ℕ)) (change : Option Op)
+    → hindrance held other row change ≡ None → other ≡ None
+unhindered (Some n) other row change none = absurd (some_none (reply.HeldBy n) none)
+unhindered None (Some h) row change none = absurd (some_none (client.busy_reply h) none)
+unhindered None None row change none = refl
+
+not_told : (due : Bool) → cond due added.Fragment added.Done ≡ added.TooLarge → ⊥
+not_told true e = cc
+not_told false e = cc
+
+told_large : (b : Bool) (change : Option Op) (old new : Live) → (added_unless b change old new).0 ≡ added.TooLarge → b ≡ true
+told_large true change old new told = refl
+told_large false None old new told = absurd (not_told false told)
+told_large false (Some o) old new told = absurd (not_told (is_due new) told)
+
+told_small : (b : Bool) (change : Option Op) (old new : Live) → ((added_unless b change old new).0 ≡ added.TooLarge → ⊥) → b ≡ false
+told_small true change old new told = absurd (told refl)
+told_small false change old new told = refl
+
+module _ (order : List Event) (c0 c1 c2 : Node) (session : ℕ) (id : RowId) (kind : Kind) (change : Option Op) (t : Live)
+    (is : get c0.live session ≡ Some t) (free : is_pending (Some t) ≡ false) (m : Met) (met : m ≡ met_at c0 session id kind t)
+    (none : hindrance m.held m.blocker m.row change ≡ None) (same : Unchanged c0 c1) (told : Added)
+    (both : (told, c2) ≡ told_and_put c1 session (add_by t (row_parts id) kind change)) (st : Stands order c0) where
+  abbrev asked : client.Statement
+  asked = asked_for id kind change
+
+  abbrev more : Live
+  more = extended t asked
+
+  abbrev accepted : Reply × ModelNode
+  accepted = (accepted_reply (met_by order (plain_of c0) session t asked).row change, set_live (plain_of c0) session more)
+
+  refusal_by : refusal (met_by order (plain_of c0) session t asked) change ≡ first_line (where_true (is_too_large more) reply.TooLarge ∷ [])
+  refusal_by =
+      refusal_is order c0 session id kind change t is free st
+      ∙ ap (λ (m : Met). first_line (hindrance m.held m.blocker m.row change ∷ where_true (is_too_large more) reply.TooLarge ∷ [])) (sym met)
+      ∙ ap (λ h. first_line (h ∷ where_true (is_too_large more) reply.TooLarge ∷ [])) none
+
+  statement_is : (b : Bool) → is_too_large more ≡ b → statement order (plain_of c0) session (Some t) asked
+      ≡ statement_by (first_line (where_true b reply.TooLarge ∷ [])) (plain_of c0) accepted
+  statement_is b large =
+      ap (λ r. statement_by r (plain_of c0) accepted)
+      (refusal_by ∙ ap (λ b. first_line (where_true b reply.TooLarge ∷ [])) large)
+
+  after_add : (b : Bool) → is_too_large more ≡ b
+      → c2 ≡ record c1 { live = insert c1.live session (added_unless b change t more).1 }
+  after_add b large =
+      ap (λ (p : Added × Node). p.1) both
+      ∙ ap (λ b. record c1 { live = insert c1.live session (added_unless b change t more).1 }) large
+
+  told_is : told ≡ (added_unless (is_too_large more) change t more).0
+  told_is = ap (λ (p : Added × Node). p.0) both
+
+  live_is : get c1.live session ≡ Some t
+  live_is = ap (λ (n : ModelNode). get n.live session) same.plain ∙ is
+
+  pub grown_too_large : told ≡ added.TooLarge
+      → DoneOver order (λ n. statement order n session (get n.live session) asked) c0 c2 reply.TooLarge
+  grown_too_large too =
+      let large : is_too_large more ≡ true = told_large (is_too_large more) change t more (sym told_is ∙ too) in
+      let left : c2 ≡ c1 = after_add true large ∙ ap (λ l. record c1 { live = l }) (put_same c1.live session t live_is) in
+      record {
+        same =
+            ap (λ n. (reply.TooLarge, n)) (ap plain_of left ∙ same.plain) ∙ sym (statement_is true large)
+            ∙ ap (λ o. statement order (plain_of c0) session o asked) (sym is);
+        stands = subst (Stands order) (sym left) (unchanged_stands order c0 c1 same st);
+      }
+
+  module _ (small : told ≡ added.TooLarge → ⊥) (room : c0.units.room + 1 ≤ c1.rows.spare) (c3 : Node)
+      (others : c3 ≡ record c2 { locks = c3.locks; rows = c3.rows })
+      (locks : c3.locks.locks ≡ (granted c2.locks.locks (Session session) (row_parts id) kind).1)
+      (changes : c3.rows.changes ≡ changes_after c2.rows session change) (committed : c3.rows.committed ≡ c2.rows.committed)
+      (spare : c2.rows.spare ≤ c3.rows.spare + 1) (fits : StatementFits asked) where
+    is_small : is_too_large more ≡ false
+    is_small = told_small (is_too_large more) change t more (λ e. small (told_is ∙ e))
+
+    grown : c2 ≡ record c1 { live = insert c1.live session more }
+    grown = after_add false is_small
+
+    plain_is : plain_of c3 ≡ set_live (plain_of c1) session more
+    plain_is = ap plain_of others ∙ ap plain_of grown
+
+    st1 : Stands order c1
+    st1 = unchanged_stands order c0 c1 same st
+
+    locked : has_locks t.status ≡ true
+    locked = running_locks t.status free
+
+    unblocked : blocker (locks_of c1.live c1.units.units) (Session session) (row_parts id) kind ≡ None
+    unblocked =
+        ap (λ l. blocker l (Session session) (row_parts id) kind) (sym st1.tables.locks ∙ same.locks)
+        ∙ ap (λ (m : Met). m.blocker) (sym met) ∙ unhindered m.held m.blocker m.row change none
+
+    locks_now : c3.locks.locks ≡ locks_of (insert c1.live session more) c1.units.units
+    locks_now =
+        locks
+        ∙ ap (λ (n : Node). (granted n.locks.locks (Session session) (row_parts id) kind).1) grown
+        ∙ ap (λ l. (granted l (Session session) (row_parts id) kind).1) st1.tables.locks
+        ∙ ap (λ o. (granted_unless o (locks_of c1.live c1.units.units) (Session session) (row_parts id) kind).1) unblocked
+        ∙ sym (locks_of-with_lock c1.live c1.units.units session t more (row_parts id) kind live_is locked locked refl)
+
+    rows_now : (o : Option Op) → change ≡ o → Tabled (rows_at order c1.at.committed) (insert c1.live session more) c3.rows
+    rows_now None no_change =
+        tabled-same (rows_at order c1.at.committed) c1.live c1.rows c3.rows st1.tables.rows session t more live_is locked
+        (ap (with_op t.ops) no_change) locked (committed ∙ ap (λ (n : Node). n.rows.committed) grown)
+        (changes ∙ ap (changes_after c2.rows session) no_change ∙ ap (λ (n : Node). n.rows.changes) grown)
+    rows_now (Some o) some_change =
+        let key = key_changes (row_parts id) kind o (subst (λ c. IfSome c (λ o. IsKeyOf (row_parts id) kind o)) some_change fits.key) in
+        let unowned = free_row order (plain_of c1) (rows_at order c1.at.committed) c1.rows st1.facts st1.tables.rows session (id_of o) kind
+        key.1 (ap (λ p. blocker (locks_of c1.live c1.units.units) (Session session) p kind) (sym key.0) ∙ unblocked) in
+        tabled-written (rows_at order c1.at.committed) c1.live c1.rows c3.rows st1.tables.rows session t more o live_is locked
+        (ap (with_op t.ops) some_change) locked unowned (committed ∙ ap (λ (n : Node). n.rows.committed) grown)
+        (changes ∙ ap (changes_after c2.rows session) some_change ∙ ap (λ (n : Node). (written n.rows session o).1) grown
+        ∙ ap (λ w. (written_unless w c1.rows session o).1) unowned)
+
+    taken : statement order (plain_of c0) session (Some t) asked ≡ accepted
+    taken = statement_is false is_small
+
+    pub grown_stands : DoneOver order (λ n. statement order n session (get n.live session) asked) c0 c3 (accepted_reply m.row change)
+    grown_stands =
+        let had = st1.tables.room in
+        let unit_room = same.unit_room in
+        let new_room : c3.units.room ≡ c1.units.room = ap (λ (n : Node). n.units.room) others ∙ ap (λ (n : Node). n.units.room) grown in
+        let mid_spare : c2.rows.spare ≡ c1.rows.spare = ap (λ (n : Node). n.rows.spare) grown in
+        let plain0 : plain_of c3 ≡ set_live (plain_of c0) session more = plain_is ∙ ap (λ n. set_live n session more) same.plain in
+        let row_is : m.row ≡ (met_by order (plain_of c0) session t asked).row =
+        ap (λ (m : Met). m.row) met ∙ row_same order c0 session id kind change t is free st in
+        record {
+          same =
+              (λ i. (accepted_reply (row_is i) change, plain0 i)) ∙ sym taken
+              ∙ ap (λ o. statement order (plain_of c0) session o asked) (sym is);
+          stands = stands_by order c1 c3 st1 (ap (λ (n : ModelNode). n.at.committed) plain_is)
+              (ap (λ (n : ModelNode). n.at.certified) plain_is) (ap (λ (n : ModelNode). n.at.taken) plain_is)
+              (ap (λ (n : Node). n.inbox) others ∙ ap (λ (n : Node). n.inbox) grown)
+              (ap (λ (n : Node). n.fold) others ∙ ap (λ (n : Node). n.fold) grown)
+              (ap (λ (n : Node). n.passed.ops) others ∙ ap (λ (n : Node). n.passed.ops) grown)
+              (record {
+                locks = locks_now ∙ ap (λ (n : ModelNode). locks_of n.live n.units) (sym plain_is);
+                rows = subst (λ (n : ModelNode). Tabled (rows_at order n.at.committed) n.live c3.rows) (sym plain_is)
+                    (rows_now change refl);
+                units = subst (AreWorked order)
+                    (sym (ap (λ (n : Node). n.units) others ∙ ap (λ (n : Node). n.units) grown)) st1.tables.units;
+                room = omega (arith, room, unit_room, new_room, mid_spare, spare);
+              })
+              (subst (Facts order) (ap (λ (p : Reply × ModelNode). p.1) taken ∙ sym plain0)
+              (statement_keeps order (plain_of c0) session (Some t) is free asked fits st.facts));
+        }
+
+-- a statement is only made of a live transaction
+pub some_live : (node : Node) (session : ℕ) (id : RowId) (kind : Kind) (o : Option Live) (m : Met)
+    → Some m ≡ option_map (met_at node session id kind) o → (t : Live) × (o ≡ Some t)
+some_live node session id kind None m met = absurd (some_none m met)
+some_live node session id kind (Some t) m met = (t, refl)
+
+-- ---- the rules before the table of calls
+by_rules : (a b c : Bool) (n : ModelNode) (x : Reply × ModelNode)
+    → cond a (reply.Pending, n) (cond b (reply.Disconnected, n) (cond c (reply.NotSynced, n) x))
+    ≡ statement_by (cond a (Some reply.Pending) (cond b (Some reply.Disconnected) (cond c (Some reply.NotSynced) None))) n x
+by_rules true b c n x = refl
+by_rules false true c n x = refl
+by_rules false false true n x = refl
+by_rules false false false n x = refl
+
+asked_by : (order : List Event) (n : ModelNode) (session : ℕ) (live : Option Live) (c : Call)
+    → client.asked order n session live c ≡ statement_by (closed_by n.at live) n (client.served order n session live c)
+asked_by order n session live c =
+    by_rules (is_pending live) (is_left n.at.phase) (is_joining n.at.phase || nat_lt n.at.committed n.at.view) n
+    (client.served order n session live c)
+
+client_by : (order : List Event) (n : ModelNode) (session : ℕ) (c : Call) → get n.waiting session ≡ None
+    → client.client order n session c ≡ statement_by (closed_by n.at (get n.live session)) n (client.served order n session (get n.live session) c)
+unfolding client.client
+client_by order n session c none =
+    ap (λ o. client.told_first n session o (client.asked order n session (get n.live session) c)) none
+    ∙ asked_by order n session (get n.live session) c
+
+module _ (order : List Event) (old : Node) (session : ℕ) (c : Call) (waiting : FiniteMap nat_cmp Reply)
+    (left : waiting ≡ remove old.waiting session) (st : Stands order old) where
+  -- a waiting answer is told
+  pub told : (said : Reply) → get old.waiting session ≡ Some said
+      → DoneOver order (λ n. client.client order n session c) old (record old { waiting = waiting }) said
+  unfolding client.client
+  told said is =
+      let n = plain_of old in
+      record {
+        same =
+            ap (λ w. (said, record n { waiting = w })) left
+            ∙ ap (λ o. client.told_first n session o (client.asked order n session (get n.live session) c)) (sym is);
+        stands = record {
+          inbox = st.inbox;
+          fold = st.fold;
+          passed = st.passed;
+          tables = record {
+            locks = st.tables.locks;
+            rows = st.tables.rows;
+            units = st.tables.units;
+            room = st.tables.room;
+          };
+          facts = subst (λ w. Facts order (record n { waiting = w })) (sym left)
+              (told_keeps order n session (Some said) (said, n) st.facts st.facts);
+        };
+      }
+
+  module _ (none : get old.waiting session ≡ None) where
+    pub as_before : record old { waiting = waiting } ≡ old
+    as_before = ap (λ w. record old { waiting = w }) (left ∙ remove_absent old.waiting session none)
+
+    -- a call that is not done
+    pub not_done : (why : Reply) → closed_by old.at (get old.live session) ≡ Some why
+        → DoneOver order (λ n. client.client order n session c) old (record old { waiting = waiting }) why
+    not_done why closed = record {
+      same =
+          ap (λ n. (why, plain_of n)) as_before
+          ∙ ap (λ o. statement_by o (plain_of old) (client.served order (plain_of old) session (get old.live session) c)) (sym closed)
+          ∙ sym (client_by order (plain_of old) session c none);
+      stands = subst (Stands order) (sym as_before) st;
+    }
+
+    -- a call of the table
+    pub done : (new : Node) (said : Reply) → closed_by old.at (get old.live session) ≡ None
+        → Does (λ order n. client.served order n session (get n.live session) c) (record old { waiting = waiting }) new said
+        → DoneOver order (λ n. client.client order n session c) old new said
+    done new said open_to does =
+        let did = subst (λ n. Does (λ order n. client.served order n session (get n.live session) c) n new said) as_before does order st in
+        record {
+          same =
+              did.same
+              ∙ ap (λ o. statement_by o (plain_of old) (client.served order (plain_of old) session (get old.live session) c)) (sym open_to)
+              ∙ sym (client_by order (plain_of old) session c none);
+          stands = did.stands;
+        }
+
+-- a call of the table that lacks memory
+pub unchanged_before : (old new : Node) (session : ℕ) (waiting : FiniteMap nat_cmp Reply) → waiting ≡ remove old.waiting session
+    → get old.waiting session ≡ None → Unchanged (record old { waiting = waiting }) new → Unchanged old new
+unchanged_before old new session waiting left none same =
+    subst (λ n. Unchanged n new)
+    (ap (λ w. record old { waiting = w }) (left ∙ remove_absent old.waiting session none)) same

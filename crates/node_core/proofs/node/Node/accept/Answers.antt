@@ -1,0 +1,70 @@
+-- A statement that nothing hinders but its transaction's size.
+use Rattle.std.proofs.Common.{◌≡◌, ◌≤◌, sym, ap, subst, ◌∙◌, ◌⊎◌, inl, inr, arith}
+use Rattle.finite_map.specs.FiniteMap.{get}
+use Rattle.client_trx.specs.declared.status.Added.{Added}
+use Rattle.client_trx.specs.declared.status.Added.TheVariants as added
+use Rattle.client_trx.specs.Live.{add_by}
+use Rattle.node_meaning.specs.Node.{ModelNode}
+use Rattle.node_meaning.specs.Client.{is_pending, statement}
+use Rattle.node_core.specs.Stands.{DoneOver}
+use Rattle.row_locks.specs.Locks.{granted}
+use Rattle.row_locks.specs.declared.holder.Holder.TheVariants.{Session}
+use Rattle.node_core.specs.declared.node.Node.{Node}
+use Rattle.node_core.specs.Statement.{told_and_put}
+use Rattle.node_core.proofs.Statements.{some_live, met_is, asked_for, grown_too_large, grown_stands}
+use Rattle.node_core.proofs.node.Node.accept.Goals as goal
+
+pub hold-requires : goal.hold-requires
+hold-requires c =
+    let room = c.in_ok-make_room.ensures.rows in
+    let spare = ap (λ (n : Node). n.rows.spare) c.extend.ensures.others in
+    record {
+      locks = subst (λ k. 1 ≤ k) (sym (ap (λ (n : Node). n.locks.spare) c.extend.ensures.others)) c.in_ok-make_room.ensures.locks;
+      rows = omega (arith, room, spare);
+    }
+
+pub returns-in-TooLarge-clause-ok : goal.returns-in-TooLarge-clause-ok
+returns-in-TooLarge-clause-ok c order st =
+    let old = c.args.self.now in
+    let s = c.args.session in
+    let live = some_live old s c.args.id.now c.args.kind (get old.live s) c.args.met c.requires.met in
+    let t = live.0 in
+    grown_too_large order old c.make_room.new.self c.extend.new.self s c.args.id.now c.args.kind c.args.change t live.1
+    (ap is_pending (sym live.1) ∙ c.requires.running) c.args.met
+    (met_is old s c.args.id.now c.args.kind (get old.live s) c.args.met c.requires.met t live.1) c.requires.free
+    c.make_room.ensures.same c.in_ok-extend.field-0
+    (c.in_ok-extend.ensures.ok t (ap (λ (n : ModelNode). get n.live s) c.make_room.ensures.same.plain ∙ live.1)
+    ∙ ap (λ p. told_and_put c.make_room.new.self s (add_by t p c.args.kind c.args.change)) c.parts_of-parts.ensures)
+    st c.in-TooLarge.is
+
+pub returns-in-Done : goal.returns-in-Done
+returns-in-Done c = record {
+  ok = λ order st.
+      let old = c.args.self.now in
+      let s = c.args.session in
+      let live = some_live old s c.args.id.now c.args.kind (get old.live s) c.args.met c.requires.met in
+      let t = live.0 in
+      subst (DoneOver order (λ n. statement order n s (get n.live s) (asked_for c.args.id.now c.args.kind c.args.change)) old c.hold.new.self) (sym c.accepted_reply.ensures)
+      (grown_stands order old c.make_room.new.self c.extend.new.self s c.args.id.now c.args.kind c.args.change t live.1
+      (ap is_pending (sym live.1) ∙ c.requires.running) c.args.met
+      (met_is old s c.args.id.now c.args.kind (get old.live s) c.args.met c.requires.met t live.1) c.requires.free
+      c.make_room.ensures.same c.in_ok-extend.field-0
+      (c.in_ok-extend.ensures.ok t (ap (λ (n : ModelNode). get n.live s) c.make_room.ensures.same.plain ∙ live.1)
+      ∙ ap (λ p. told_and_put c.make_room.new.self s (add_by t p c.args.kind c.args.change)) c.parts_of-parts.ensures)
+      st (one_of c.in_ok-extend.field-0 c.in-Done.is) c.in_ok-make_room.ensures.rows c.hold.new.self c.hold.ensures.others
+      (c.hold.ensures.locks
+      ∙ ap (λ p. (granted c.extend.new.self.locks.locks (Session s) p c.args.kind).1) c.parts_of-parts.ensures)
+      c.hold.ensures.changes c.hold.ensures.committed c.hold.ensures.spare
+      (record { names = c.requires.names; key = c.requires.change; place = c.place_in_range.ensures; change = c.change_in_range.ensures }));
+  err = tt;
+}
+  where
+    one_of : (told : Added) → (told ≡ added.Done) ⊎ (told ≡ added.Fragment) → told ≡ added.TooLarge → ⊥
+    one_of told (inl is) large = differ (sym is ∙ large)
+      where
+        differ : added.Done ≡ added.TooLarge → ⊥
+        differ e = cc
+    one_of told (inr is) large = differ (sym is ∙ large)
+      where
+        differ : added.Fragment ≡ added.TooLarge → ⊥
+        differ e = cc

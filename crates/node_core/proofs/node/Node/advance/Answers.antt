@@ -1,0 +1,20 @@
+use Rattle.std.proofs.Common.{sym, ◌∙◌, refl}
+use Rattle.node_core.proofs.AdvanceCalls.{advance_nothing, advance_waits, ready_is, results_free, advance_does}
+use Rattle.node_core.proofs.node.Node.advance.Goals as goal
+
+pub returns-then-self : goal.returns-then-self
+returns-then-self c order stands = advance_nothing order c.args.self.now stands c.if-self.true
+
+pub returns-then-not-is_ready : goal.returns-then-not-is_ready
+returns-then-not-is_ready c order stands =
+    advance_waits order c.args.self.now stands c.if-self.false
+    (sym (c.is_ready.ensures ∙ ready_is order c.args.self.now stands c.if-self.false) ∙ c.if-not-is_ready.true)
+
+pub take_unit-requires-clause-free : goal.take_unit-requires-clause-free
+take_unit-requires-clause-free c finished = results_free c.requires.stands.0 c.args.self.now c.requires.stands.1 finished
+
+pub returns : goal.returns
+returns c order stands =
+    advance_does order c.args.self.now stands c.if-self.false
+    (sym (c.is_ready.ensures ∙ ready_is order c.args.self.now stands c.if-self.false) ∙ c.if-not-is_ready.false)
+    c.take_unit.new.self c.take_unit.ensures c.end_committer.new.self _ refl c.remove.ensures.ops c.end_committer.ensures

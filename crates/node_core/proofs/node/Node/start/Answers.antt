@@ -1,0 +1,76 @@
+use Rattle.std.proofs.Common.{sym, ap, subst, ◌∙◌}
+use Rattle.std.specs.Option.{option_copied}
+use Rattle.node_core.specs.Stands.{DoneOver}
+use Rattle.node_core.specs.Answers.{started_answer}
+use Rattle.node_core.specs.Starting.{CanStart, Rise, unit_started}
+use Rattle.node_core.proofs.StartCalls.{start_committed, start_again, start_nothing, start_local, start_later, can_start, start_done, commits_rise, sought_in}
+use Rattle.node_core.proofs.node.Node.start.Goals as goal
+use Rattle.node_core.proofs.node.Node.start.Goals.{then-number-self-via-then-number-self, then-number-self-via-else-number-self+then-contains}
+
+pub returns-then-number-self-clause-ok : goal.returns-then-number-self-clause-ok
+returns-then-number-self-clause-ok c order stands = elim c.then-number-self.branch [
+  | then-number-self-via-then-number-self w ↦ start_committed order c.args.self.now c.args.number stands w.if-number-self.true
+  | then-number-self-via-else-number-self+then-contains w ↦
+      start_again order c.args.self.now c.args.number stands (sym w.contains.ensures.units ∙ w.if-contains.true)
+]
+
+pub returns-in_default-clause-ok : goal.returns-in_default-clause-ok
+returns-in_default-clause-ok c order stands =
+    start_nothing order c.args.self.now c.args.number stands c.if-number-self.false
+    (sym c.commit_at.ensures ∙ ap (λ o. option_copied o) c.in_default.is)
+
+pub returns-then-is_local-clause-ok : goal.returns-then-is_local-clause-ok
+returns-then-is_local-clause-ok c order stands =
+    start_local order c.args.self.now c.args.number stands c.if-number-self.false c.in-Some.commit.now
+    (sym c.commit_at.ensures ∙ ap (λ o. option_copied o) c.in-Some.is) (sym c.contains.ensures.units ∙ c.if-contains.false)
+    (sym c.is_local.ensures ∙ c.if-is_local.true)
+
+pub touching_before-requires : goal.touching_before-requires
+touching_before-requires c =
+    subst Rise (sym c.commits-commits.ensures) (commits_rise c.requires.stands.0 c.args.self.now c.requires.stands.1)
+
+pub returns-in-Some-touching_before-clause-ok : goal.returns-in-Some-touching_before-clause-ok
+returns-in-Some-touching_before-clause-ok c order stands =
+    start_later order c.args.self.now c.args.number stands c.if-number-self.false c.in-Some.commit.now
+    (sym c.commit_at.ensures ∙ ap (λ o. option_copied o) c.in-Some.is) (sym c.contains.ensures.units ∙ c.if-contains.false)
+    (sym c.is_local.ensures ∙ c.if-is_local.false) c.touching_before.result
+    (c.touching_before.ensures ∙ ap (sought_in c.args.self.now.at.committed c.args.number c.in-Some.commit.now.keys) c.commits-commits.ensures)
+    c.in-Some-touching_before.earlier c.in-Some-touching_before.is
+
+pub start_unit-requires : goal.start_unit-requires
+start_unit-requires c = record {
+  can = (
+    c.requires.stands.0,
+    subst (CanStart c.requires.stands.0 c.args.self.now c.args.number) (sym c.in_ok-keys.ensures)
+        (can_start c.requires.stands.0 c.args.self.now c.args.number c.requires.stands.1 c.if-number-self.false c.in-Some.commit.now
+        (sym c.commit_at.ensures ∙ ap (λ o. option_copied o) c.in-Some.is) (sym c.contains.ensures.units ∙ c.if-contains.false)
+        (sym c.is_local.ensures ∙ c.if-is_local.false) c.touching_before.result
+        (c.touching_before.ensures ∙ ap (sought_in c.args.self.now.at.committed c.args.number c.in-Some.commit.now.keys) c.commits-commits.ensures)
+        c.in_default-touching_before.is),
+  );
+}
+
+pub returns-clause-ok : goal.returns-clause-ok
+returns-clause-ok c order stands =
+    let found = sym c.commit_at.ensures ∙ ap (λ o. option_copied o) c.in-Some.is in
+    let fresh = sym c.contains.ensures.units ∙ c.if-contains.false in
+    let remote = sym c.is_local.ensures ∙ c.if-is_local.false in
+    let seen = c.touching_before.ensures ∙ ap (sought_in c.args.self.now.at.committed c.args.number c.in-Some.commit.now.keys) c.commits-commits.ensures in
+    let can = subst (CanStart order c.args.self.now c.args.number) (sym c.in_ok-keys.ensures)
+    (can_start order c.args.self.now c.args.number stands c.if-number-self.false c.in-Some.commit.now found fresh remote c.touching_before.result seen
+    c.in_default-touching_before.is) in
+    start_done order c.args.self.now c.args.number stands c.if-number-self.false c.in-Some.commit.now found fresh remote c.touching_before.result seen
+    c.in_default-touching_before.is c.start_unit.new.self (started_answer c.args.number c.in_ok-started.started)
+    (subst (λ keys. DoneOver order (unit_started c.args.number keys) c.args.self.now c.start_unit.new.self (started_answer c.args.number c.in_ok-started.started))
+    c.in_ok-keys.ensures (c.in_ok-started.ensures.ok order can).done)
+
+pub returns-clause-task : goal.returns-clause-task
+returns-clause-task c order stands =
+    let found = sym c.commit_at.ensures ∙ ap (λ o. option_copied o) c.in-Some.is in
+    let fresh = sym c.contains.ensures.units ∙ c.if-contains.false in
+    let remote = sym c.is_local.ensures ∙ c.if-is_local.false in
+    let seen = c.touching_before.ensures ∙ ap (sought_in c.args.self.now.at.committed c.args.number c.in-Some.commit.now.keys) c.commits-commits.ensures in
+    let can = subst (CanStart order c.args.self.now c.args.number) (sym c.in_ok-keys.ensures)
+    (can_start order c.args.self.now c.args.number stands c.if-number-self.false c.in-Some.commit.now found fresh remote c.touching_before.result seen
+    c.in_default-touching_before.is) in
+    (c.in_ok-started.ensures.ok order can).task

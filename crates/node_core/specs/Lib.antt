@@ -1,0 +1,9 @@
+pub mod Advancing
+pub mod Answers
+pub mod Certifying
+pub mod Client
+pub mod Stands
+pub mod Starting
+pub mod Statement
+pub mod Tabled
+pub mod Taking

@@ -1,0 +1,105 @@
+-- when a node of the code stands for the model node over an order, and what a call of it does
+use Rattle.std.specs.Prelude.{◌≡◌, ◌≤◌, ◌<◌, ℕ, Bool, true, List, length, take, drop, Option, Some, None, is_some, IsTrue}
+use Rattle.std.specs.List.{list_any}
+use Rattle.std.specs.Ordering.{nat_cmp, eq_by_cmp}
+use Rattle.finite_map.specs.FiniteMap.{FiniteMap, get, contains_key}
+use Rattle.row_model.specs.declared.row.RowId.{RowId}
+use Rattle.row_model.specs.declared.ops.Op.{Op}
+use Rattle.row_model.specs.Rows.{Rows, row_cmp, id_of, ops_on}
+use Rattle.order_event.specs.declared.event.Event.{Event}
+use Rattle.order_event.specs.declared.step.Answer.{Answer}
+use Rattle.cert_meaning.specs.Fold.{state_at}
+use Rattle.client_trx.specs.Live.{Live, has_locks}
+use Rattle.undo_rows.specs.RowTable.{RowTable}
+use Rattle.node_meaning.specs.declared.progress.Stage.{Stage}
+use Rattle.node_meaning.specs.declared.progress.Stage.TheVariants as stage
+use Rattle.node_meaning.specs.Node.{ModelNode, ApplyUnit, locks_of, rows_at}
+use Rattle.node_meaning.specs.Facts.{Facts, commit_at}
+use Rattle.node_core.specs.declared.node.Node.{Node}
+use Rattle.node_core.specs.Tabled.{Tabled}
+use Rattle.node_meaning.specs.Units.{ops_at, unit_task, named_rows}
+use Rattle.node_parts.specs.Units.{Work, UnitTable}
+
+-- the model node that the code keeps
+abbrev pub plain_of : Node → ModelNode
+plain_of node = record {
+  at = node.at;
+  id = node.id;
+  ordered = node.queue.ordered;
+  outbox = node.queue.outbox;
+  live = node.live;
+  units = node.units.units;
+  waiting = node.waiting;
+}
+
+-- the changes of each passed commit that is certified and not committed
+pub record KeepsChanges (order : List Event) (committed certified : ℕ) (passed : FiniteMap nat_cmp (List Op)) : Type 0 where
+  pub kept : (number : ℕ) → committed < number → number ≤ certified → IsTrue (is_some (commit_at order number))
+      → get passed number ≡ Some (ops_at order number)
+  pub only : (number : ℕ) → IsTrue (contains_key passed number) → (committed < number) × (number ≤ certified)
+
+-- a unit has its task once it is finished, and room for its rows
+abbrev pub HasTask : List Event → ℕ → Work → Stage → Type 0
+HasTask order number work stage.Started = work.done ≡ None
+HasTask order number work stage.Finished = work.done ≡ Some (unit_task order number)
+
+pub record IsWorked (order : List Event) (number : ℕ) (u : ApplyUnit) (work : Work) : Type 0 where
+  pub rows : work.rows ≡ length (named_rows (ops_at order number))
+  pub task : HasTask order number work u.stage
+
+pub record AreWorked (order : List Event) (table : UnitTable) : Type 0 where
+  pub worked : (number : ℕ) (u : ApplyUnit) → get table.units number ≡ Some u
+      → (work : Work) × (get table.work number ≡ Some work) × IsWorked order number u work
+
+-- locks, rows and units are those of the live transactions and units over the rows committed so far
+pub record Tables (order : List Event) (node : Node) : Type 0 where
+  pub locks : node.locks.locks ≡ locks_of node.live node.units.units
+  pub rows : Tabled (rows_at order node.at.committed) node.live node.rows
+  pub units : AreWorked order node.units
+  pub room : node.units.room ≤ node.rows.spare
+
+-- the node stands for the model node that it keeps
+pub record Stands (order : List Event) (node : Node) : Type 0 where
+  pub inbox : node.inbox ≡ drop node.at.certified (take node.at.taken order)
+  pub fold : node.fold ≡ state_at order node.at.certified
+  pub passed : KeepsChanges order node.at.committed node.at.certified node.passed.ops
+  pub tables : Tables order node
+  pub facts : Facts order (plain_of node)
+
+-- a call over one order: its answer and the model node after it are the model's, and the node stands
+pub record DoneOver {A : Type 0} (order : List Event) (f : ModelNode → A × ModelNode) (old new : Node) (answer : A) : Type 0 where
+  pub same : (answer, plain_of new) ≡ f (plain_of old)
+  pub stands : Stands order new
+
+-- a call does what the model does, over every order for which the node stands
+abbrev pub Does : {A : Type 0} → (List Event → ModelNode → A × ModelNode) → Node → Node → A → Type 0
+Does f old new answer = (order : List Event) → Stands order old → DoneOver order (f order) old new answer
+
+-- a call without an answer
+abbrev pub quietly : (ModelNode → ModelNode) → List Event → ModelNode → Unit {0} × ModelNode
+quietly f order n = (tt, f n)
+
+-- after want of memory all is as it was; there may be more room
+pub record Unchanged (old new : Node) : Type 0 where
+  pub plain : plain_of new ≡ plain_of old
+  pub inbox : new.inbox ≡ old.inbox
+  pub fold : new.fold ≡ old.fold
+  pub passed : new.passed.ops ≡ old.passed.ops
+  pub work : new.units.work ≡ old.units.work
+  pub unit_room : new.units.room ≡ old.units.room
+  pub locks : new.locks.locks ≡ old.locks.locks
+  pub committed : new.rows.committed ≡ old.rows.committed
+  pub changes : new.rows.changes ≡ old.rows.changes
+  pub room : old.rows.spare ≤ new.rows.spare
+
+-- in the middle of a call: the tables go along with the model node, and nothing else moves
+pub record Moves (f : ModelNode → ModelNode) (old new : Node) : Type 0 where
+  pub plain : plain_of new ≡ f (plain_of old)
+  pub inbox : new.inbox ≡ old.inbox
+  pub fold : new.fold ≡ old.fold
+  pub passed : new.passed ≡ old.passed
+  pub tables : (order : List Event) → Tables order old → Tables order new
+
+-- there is an order for which the node stands: so a node is at its start, and each call keeps it
+abbrev pub IsStanding : Node → Type 0
+IsStanding node = (order : List Event) × Stands order node

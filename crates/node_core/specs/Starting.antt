@@ -1,0 +1,79 @@
+-- when the unit of a commit can start, and what the steps of its start leave
+use Rattle.std.specs.Prelude.{◌≡◌, ◌≤◌, ◌<◌, ℕ, false, List, fold, Some, None}
+use Rattle.finite_map.specs.FiniteMap.{FiniteMap, get}
+use Rattle.std.specs.List.{AllByRecursion}
+use Rattle.std.specs.Ordering.{nat_cmp}
+use Rattle.wsrep_base.specs.declared.ids.TrxId.{TrxId}
+use Rattle.key_sets.specs.declared.kind.Kind.{Kind}
+use Rattle.key_sets.specs.declared.parts.Parts.{Parts}
+use Rattle.key_sets.specs.Keys.{Keys, touches, one_key}
+use Rattle.row_model.specs.Rows.{Rows}
+use Rattle.order_event.specs.declared.event.Event.{Event}
+use Rattle.order_event.specs.declared.step.Answer.TheVariants as answer
+use Rattle.cert_meaning.specs.declared.items.CommitItem.{CommitItem}
+use Rattle.cert_meaning.specs.State.{RiseWithin}
+use Rattle.row_locks.specs.declared.holder.Holder.{Holder}
+use Rattle.row_locks.specs.declared.holder.Holder.TheVariants.{Unit as UnitHolder}
+use Rattle.row_locks.specs.Holders.{same_holder}
+use Rattle.row_locks.specs.Locks.{Locks, keys_at, with_lock, touching_sessions}
+use Rattle.node_meaning.specs.Node.{ModelNode, ApplyUnit, locks_of}
+use Rattle.node_meaning.specs.Facts.{commit_at}
+use Rattle.node_meaning.specs.Steps.{is_local, started}
+use Rattle.node_core.specs.declared.node.Node.{Node}
+use Rattle.node_core.specs.declared.answers.Started.{Started}
+use Rattle.node_core.specs.Tabled.{Tabled}
+use Rattle.node_core.specs.Answers.{started_answer, GivesTask}
+use Rattle.node_core.specs.Stands.{Stands, DoneOver, plain_of}
+
+-- a commit that passed and is not committed, has no unit and is no live transaction's, and is touched by none before it
+pub record CanStart (order : List Event) (node : Node) (number : ℕ) (keys : Keys) : Type 0 where
+  pub stands : Stands order node
+  pub above : node.at.committed < number
+  pub within : number ≤ node.at.certified
+  pub label : ℕ
+  pub trx : TrxId
+  pub is_commit : commit_at order number ≡ Some (record { number = label; trx = trx; keys = keys })
+  pub fresh : get node.units.units number ≡ None
+  pub remote : is_local node.live number ≡ false
+  pub clear : (earlier : ℕ) (c : CommitItem) → node.at.committed < earlier → earlier < number → commit_at order earlier ≡ Some c
+      → touches c.keys keys ≡ false
+
+-- the unit starts, and aborts who is in its way
+abbrev pub unit_started : ℕ → Keys → ModelNode → answer.the_data × ModelNode
+unit_started number keys n = started n number keys (touching_sessions (locks_of n.live n.units) keys)
+
+-- the unit is started over one order, and its task is given
+pub record IsStartedOver (order : List Event) (number : ℕ) (keys : Keys) (old new : Node) (given : Started) : Type 0 where
+  pub task : GivesTask order number given
+  pub done : DoneOver order (unit_started number keys) old new (started_answer number given)
+
+-- in the middle of aborting: locks and rows go along with the live transactions, and the units stay
+pub record Aborts (f : ModelNode → ModelNode) (old new : Node) : Type 0 where
+  pub plain : plain_of new ≡ f (plain_of old)
+  pub at : new.at ≡ old.at
+  pub inbox : new.inbox ≡ old.inbox
+  pub fold : new.fold ≡ old.fold
+  pub passed : new.passed ≡ old.passed
+  pub units : new.units ≡ old.units
+  pub spare : old.locks.spare ≤ new.locks.spare
+  pub room : old.rows.spare ≤ new.rows.spare
+  pub locks : (older : FiniteMap nat_cmp ApplyUnit) → old.locks.locks ≡ locks_of old.live older
+      → new.locks.locks ≡ locks_of new.live older
+  pub rows : (rows : Rows) → Tabled rows old.live old.rows → Tabled rows new.live new.rows
+
+-- no other holder's keys touch these
+abbrev pub IsClear : Locks → ℕ → Keys → Type 0
+IsClear locks number keys = (g : Holder) → same_holder (UnitHolder number) g ≡ false → touches keys (keys_at locks g) ≡ false
+
+-- the locks once the unit has these keys too
+abbrev pub unit_locked : Locks → ℕ → List (Parts × Kind) → Locks
+unit_locked locks number keys = fold (λ all key. with_lock all (UnitHolder number) key.0 key.1) locks keys
+
+-- the numbers of the commits rise
+abbrev pub Rise : List CommitItem → Type 0
+Rise commits = (most : ℕ) × RiseWithin 0 most commits
+
+-- nobody is in the way of any of these keys
+abbrev pub AllClear : Locks → ℕ → List (Parts × Kind) → Type 0
+AllClear locks number keys =
+    (g : Holder) → same_holder (UnitHolder number) g ≡ false → AllByRecursion (λ key. touches (one_key key.0 key.1) (keys_at locks g) ≡ false) keys

@@ -1,0 +1,25 @@
+-- what a node becomes as it takes the next event
+use Rattle.std.specs.Prelude.{◌+◌, [], ◌∷◌, ◌++◌, Bool, true, false}
+use Rattle.order_event.specs.declared.event.Event.{Event}
+use Rattle.node_meaning.specs.Steps.{is_write}
+use Rattle.node_parts.specs.Queue.{Queued, taken as without_oldest}
+use Rattle.node_core.specs.declared.answers.Taken.{Taken}
+use Rattle.node_core.specs.declared.answers.Taken.TheVariants as taken
+use Rattle.node_core.specs.declared.node.Node.{Node}
+
+-- the event is in the inbox, and the queue is this one
+abbrev pub with_event : Node → Event → Queued → Node
+with_event node e queue = record node {
+  at = record node.at { taken = node.at.taken + 1 };
+  inbox = node.inbox ++ e ∷ [];
+  queue = queue;
+}
+
+-- it is taken
+abbrev pub took_with : Node → Event → Queued → Taken × Node
+took_with node e queue = (taken.Took (node.at.taken + 1), with_event node e queue)
+
+-- a write set of the node's own member, which is the oldest that it had ordered, or is not
+abbrev pub taken_own : Bool → Node → Event → Taken × Node
+taken_own false node e = (taken.Split (node.at.taken + 1), node)
+taken_own true node e = took_with node e (without_oldest is_write node.queue)

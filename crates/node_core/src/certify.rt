@@ -1,0 +1,127 @@
+ghost use Rattle.std.specs.Prelude.{◌≡◌, ◌<◌, IfOk, OnErr};
+ghost use Rattle.client_trx.specs.Live.{is_sent};
+ghost use Rattle.node_parts.specs.Passed.{AllBefore};
+ghost use Rattle.node_meaning.specs.Steps.{verdict_of};
+ghost use Rattle.node_core.specs.Certifying.{is_write_of, with_changes, told_if};
+
+use crate::answers::Certified;
+use crate::node::Node;
+use client_trx::{Outcome, Status};
+use node_parts::{Passed, session_of};
+use order_event::Event;
+use row_locks::Holder;
+use row_model::OpList;
+use undo_rows::Rows;
+use write_set::WriteSet;
+use wsrep_base::{Judged, NoMemory, Verdict};
+
+impl Node {
+    ghost use Rattle.node_meaning.specs.Steps.{certify_step, told_verdict, session_of as found};
+    ghost use Rattle.node_core.specs.Answers.{certified_answer};
+    ghost use Rattle.node_core.specs.Stands.{IsStanding, Stands, Does, Unchanged, Moves};
+
+    /// Certifies the next event that was taken, and tells the transaction that sent it.
+    pub fn certify(&mut self) -> Result<Certified, NoMemory>
+        requires stands { IsStanding self.old }
+        ensures ok { IfOk result (λ r. Does (λ order n. certify_step order n) self.old self.new (certified_answer r)) }
+        ensures err { OnErr result (Unchanged self.old self.new) }
+    {
+        if self.at.certified == self.at.taken {
+            return Ok(Certified::Nothing);
+        }
+        self.passed.reserve_one()?;
+        let Some(event) = self.inbox.first() else {
+            return Ok(Certified::Nothing);
+        };
+        let is_own = is_write_of(event, self.at.member);
+        let told = self.fold.step_told(event)?;
+        self.inbox.drop_first();
+        self.at.certified += 1;
+        let number = self.at.certified;
+        keep_changes(&mut self.passed, number, told.judged, told.changes);
+        self.tell_own(is_own, told.set, number, verdict_of(told.judged));
+        Ok(Certified::Judged(number, told.judged))
+    }
+
+    // Where the write set is the node's own, the transaction that sent it is told the verdict.
+    fn tell_own(&mut self, is_own: bool, set: Option<WriteSet>, number: u64, verdict: Verdict)
+        ensures { Moves (told_if is_own set number verdict) self.old self.new }
+    {
+        if !is_own {
+            return;
+        }
+        match set {
+            Some(set) => self.tell(number, set.begin, verdict),
+            None => {}
+        }
+    }
+
+    // The live transaction with this begin number is told the verdict on the write set it sent.
+    fn tell(&mut self, number: u64, begin: u64, verdict: Verdict)
+        ensures { Moves (λ n. told_verdict n number verdict (found n.live begin)) self.old self.new }
+    {
+        let Some(session) = session_of(&self.live, begin) else {
+            return;
+        };
+        // Sessions lie below this number.
+        let _sessions = self.live.session_end();
+        let Some(mut trx) = self.live.take(session) else {
+            return;
+        };
+        if !is_sent(trx.status()) {
+            self.live.put(session, trx);
+            return;
+        }
+        match trx.judged(number, verdict) {
+            Outcome::Lives => self.live.put(session, trx),
+            Outcome::Ends(reply) => {
+                self.locks.release(Holder::Session(session));
+                self.rows.roll_back(session);
+                self.waiting.put(session, reply);
+            }
+        }
+    }
+}
+
+// Whether the event is a write set of this member.
+fn is_write_of(event: &Event, own: u32) -> bool
+    ensures { result ≡ is_write_of event.now own }
+{
+    match event {
+        Event::Write { member, .. } => *member == own,
+        Event::View { .. } | Event::Report { .. } => false,
+    }
+}
+
+// Whether a write set of the transaction waits for its verdict.
+fn is_sent(status: Status) -> bool
+    ensures { result ≡ is_sent status }
+{
+    match status {
+        Status::FragmentSent | Status::CommitSent | Status::KilledSent => true,
+        Status::Running | Status::Certified(_) | Status::Replaying(_) => false,
+    }
+}
+
+// The changes of a passed commit wait there until it is committed.
+fn keep_changes(passed: &mut Passed, number: u64, judged: Judged, changes: OpList)
+    requires spare { 0 < passed.old.spare }
+    requires newest { AllBefore passed.old.ops number }
+    ensures { passed.new.ops ≡ with_changes judged passed.old.ops number changes }
+{
+    match judged {
+        Judged::Commit => passed.push(number, changes),
+        Judged::View | Judged::Report | Judged::Fragment | Judged::Rollback | Judged::Fail(_) => {}
+    }
+}
+
+fn verdict_of(judged: Judged) -> Verdict
+    ensures { result ≡ verdict_of judged }
+{
+    match judged {
+        Judged::Fail(verdict) => verdict,
+        Judged::View | Judged::Report | Judged::Commit | Judged::Fragment | Judged::Rollback => {
+            Verdict::Pass
+        }
+    }
+}

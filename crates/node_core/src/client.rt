@@ -1,0 +1,182 @@
+ghost use Rattle.std.specs.Prelude.{◌≡◌, ◌≤◌, ◌<◌, ◌^◌, List, IfOk, OnErr, IsTrue, false};
+ghost use Rattle.finite_map.specs.FiniteMap.{get};
+
+use crate::node::Node;
+use crate::ranges::progress_in_range;
+use crate::refusal::row_reply;
+use client_trx::{Status, Trx};
+use key_sets::Kind;
+use node_meaning::Phase;
+use order_event::Message;
+use row_locks::Holder;
+use row_model::{Call, Op, Reply, RowId};
+use undo_rows::Rows;
+use write_set::encode;
+use wsrep_base::{NoMemory, TrxId};
+
+impl Node {
+    ghost use Rattle.row_model.specs.Names.{call_fits};
+    ghost use Rattle.order_event.specs.declared.event.Event.{Event};
+    ghost use Rattle.node_meaning.specs.Node.{rows_at, seen_rows, end_live};
+    ghost use Rattle.node_meaning.specs.Client.{client, served, begin_call, commit_call, rollback_call, poll_reply, row_reply, is_pending};
+    ghost use Rattle.node_core.specs.Client.{closed_by};
+    ghost use Rattle.node_core.specs.Stands.{IsStanding, Stands, Does, Unchanged, Moves};
+
+    /// What a session, 1 to 32, is answered when it makes a call.
+    pub fn client(&mut self, session: u8, call: &Call) -> Result<Reply, NoMemory>
+        requires stands { IsStanding self.old }
+        requires session { (1 ≤ session) × (session ≤ 32) }
+        requires names { IsTrue (call_fits call.now) }
+        requires serial { self.old.at.serial < 2 ^ 63 }
+        requires begin { self.old.at.begin < 2 ^ 63 }
+        ensures ok { IfOk result (Does (λ order n. client order n session call.now) self.old self.new) }
+        ensures err { OnErr result (Unchanged self.old self.new) }
+    {
+        if let Some(reply) = self.waiting.take(session) {
+            return Ok(reply);
+        }
+        if let Some(reply) = self.closed(session) {
+            return Ok(reply);
+        }
+        self.serve(session, call)
+    }
+
+    // The rules before the table of calls.
+    fn closed(&self, session: u8) -> Option<Reply>
+        ensures { result ≡ closed_by self.now.at (get self.now.live session) }
+    {
+        if self.is_pending(session) {
+            return Some(Reply::Pending);
+        }
+        match self.at.phase {
+            Phase::Left => Some(Reply::Disconnected),
+            Phase::Joining => Some(Reply::NotSynced),
+            Phase::Connected if self.at.committed < self.at.view => Some(Reply::NotSynced),
+            Phase::Connected => None,
+        }
+    }
+
+    // Whether the session's transaction is live and not Running.
+    fn is_pending(&self, session: u8) -> bool
+        ensures { result ≡ is_pending (get self.now.live session) }
+    {
+        match self.live.get(session) {
+            Some(trx) => trx.status() != Status::Running,
+            None => false,
+        }
+    }
+
+    // The table of calls.
+    fn serve(&mut self, session: u8, call: &Call) -> Result<Reply, NoMemory>
+        requires stands { IsStanding self.old }
+        requires session { (1 ≤ session) × (session ≤ 32) }
+        requires running { is_pending (get self.old.live session) ≡ false }
+        requires names { IsTrue (call_fits call.now) }
+        requires serial { self.old.at.serial < 2 ^ 63 }
+        requires begin { self.old.at.begin < 2 ^ 63 }
+        ensures ok { IfOk result (Does (λ order n. served order n session (get n.live session) call.now) self.old self.new) }
+        ensures err { OnErr result (Unchanged self.old self.new) }
+    {
+        match call {
+            Call::Begin(_) => self.begin(session),
+            Call::Insert(id, row) => {
+                self.statement(session, id, Kind::Exclusive, Some(Op::Insert(*id, *row)))
+            }
+            Call::Update(id, change) => {
+                self.statement(session, id, Kind::Update, Some(Op::Update(*id, *change)))
+            }
+            Call::Delete(id) => {
+                self.statement(session, id, Kind::Exclusive, Some(Op::Delete(*id)))
+            }
+            Call::Share(id) => self.statement(session, id, Kind::Shared, None),
+            Call::Read(id) => Ok(self.read(session, id)),
+            Call::Commit => self.commit(session),
+            Call::Rollback => Ok(self.roll_back(session)),
+            Call::Poll => Ok(self.poll(session)),
+        }
+    }
+
+    // A transaction begins with the next begin number.
+    fn begin(&mut self, session: u8) -> Result<Reply, NoMemory>
+        requires session { (1 ≤ session) × (session ≤ 32) }
+        requires begin { self.old.at.begin < 2 ^ 63 }
+        ensures ok { IfOk result (Does (λ order n. begin_call n session (get n.live session)) self.old self.new) }
+        ensures err { OnErr result (Unchanged self.old self.new) }
+    {
+        if self.live.contains(session) {
+            return Ok(Reply::InTrx);
+        }
+        let id = TrxId {
+            member: self.at.member,
+            begin: self.at.begin,
+        };
+        let trx = Trx::begin(self.alloc, id, 0)?;
+        self.live.put(session, trx);
+        self.at.begin += 1;
+        Ok(Reply::Done)
+    }
+
+    fn read(&self, session: u8, id: &RowId) -> Reply
+        requires running { is_pending (get self.now.live session) ≡ false }
+        ensures { (order : List Event) → Stands order self.now
+            → result ≡ row_reply (get (seen_rows (rows_at order self.now.at.committed) (get self.now.live session)) id.now) }
+    {
+        row_reply(self.rows.seen_by(session, id))
+    }
+
+    fn poll(&self, session: u8) -> Reply
+        ensures { result ≡ poll_reply (get self.now.live session) }
+    {
+        if self.live.contains(session) {
+            Reply::Running
+        } else {
+            Reply::NoTrx
+        }
+    }
+
+    // A commit that changes nothing is done at once; else its write set is sent.
+    fn commit(&mut self, session: u8) -> Result<Reply, NoMemory>
+        requires stands { IsStanding self.old }
+        requires session { (1 ≤ session) × (session ≤ 32) }
+        requires running { is_pending (get self.old.live session) ≡ false }
+        requires serial { self.old.at.serial < 2 ^ 63 }
+        ensures ok { IfOk result (Does (λ order n. commit_call n session (get n.live session)) self.old self.new) }
+        ensures err { OnErr result (Unchanged self.old self.new) }
+    {
+        progress_in_range(&self.at);
+        let Some(trx) = self.live.get(session) else {
+            return Ok(Reply::NoTrx);
+        };
+        if trx.ops().is_empty() && trx.sent() == 0 {
+            self.end(session);
+            return Ok(Reply::Committed(0));
+        }
+        let mut sent = trx.copy()?;
+        let set = sent.make_commit(self.at.serial, self.at.committed)?;
+        let bytes = encode(self.alloc, &set)?;
+        self.queue.push(Message::Write(bytes))?;
+        self.at.serial += 1;
+        self.live.put(session, sent);
+        Ok(Reply::Pending)
+    }
+
+    fn roll_back(&mut self, session: u8) -> Reply
+        ensures { Does (λ order n. rollback_call n session (get n.live session)) self.old self.new result }
+    {
+        if self.live.contains(session) {
+            self.end(session);
+            Reply::RolledBack
+        } else {
+            Reply::NoTrx
+        }
+    }
+
+    // The session's transaction ends: it is live no longer, and its locks and changes go.
+    pub(crate) fn end(&mut self, session: u8)
+        ensures { Moves (λ n. end_live n session) self.old self.new }
+    {
+        let _ended = self.live.take(session);
+        self.locks.release(Holder::Session(session));
+        self.rows.roll_back(session);
+    }
+}

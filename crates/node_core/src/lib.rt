@@ -1,0 +1,18 @@
+//! One node of a cluster: its sessions and their transactions, what it sent and took, its
+//! certification state, its locks and rows, and the units of other nodes' commits.
+#![tactic(auto)]
+
+mod advance;
+mod answers;
+mod certify;
+mod client;
+mod finish;
+mod node;
+mod ranges;
+mod refusal;
+mod start;
+mod statement;
+mod take;
+
+pub use answers::{Advanced, Certified, Place, Started, Taken};
+pub use node::Node;

@@ -1,0 +1,147 @@
+ghost use Rattle.std.specs.Prelude.{◌≡◌, ◌≢◌, ◌≤◌, ◌<◌, List, length, IfOk};
+ghost use Rattle.std.specs.Option.{option_copied};
+ghost use Rattle.finite_map.specs.FiniteMap.{get};
+
+use crate::answers::Place;
+use cert_meaning::FoldState;
+use client_trx::Trx;
+use node_meaning::{Phase, Progress};
+use node_parts::{Inbox, Passed, Queue, Slots, Units};
+use order_event::Message;
+use row_locks::LockTable;
+use row_model::{Reply, Row, RowId, RowList};
+use std::alloc::Global;
+use undo_rows::{Overlay, Rows};
+use wsrep_base::{NoMemory, StateId};
+
+/// A node. Each part has its own contract; what it stands for as a whole is told over an order.
+#[derive(Drop)]
+pub struct Node {
+    pub(crate) alloc: Global,
+    pub(crate) at: Progress,
+    pub(crate) id: StateId,
+    /// Live transactions and waiting answers, by session.
+    pub(crate) live: Slots<Trx>,
+    pub(crate) waiting: Slots<Reply>,
+    /// What it sent and did not take yet.
+    pub(crate) queue: Queue,
+    /// What it took and did not certify yet.
+    pub(crate) inbox: Inbox,
+    /// The state of certification.
+    pub(crate) fold: FoldState,
+    /// The changes of passed commits that are not committed yet.
+    pub(crate) passed: Passed,
+    pub(crate) units: Units,
+    pub(crate) locks: LockTable,
+    pub(crate) rows: Overlay,
+}
+
+impl Node {
+    ghost use Rattle.wsrep_base.specs.StateId.{nil_id};
+    ghost use Rattle.order_event.specs.declared.event.Event.{Event};
+    ghost use Rattle.undo_rows.specs.RowTable.{row_items};
+    ghost use Rattle.node_parts.specs.Queue.{oldest};
+    ghost use Rattle.node_meaning.specs.Node.{start_node, rows_at};
+    ghost use Rattle.node_meaning.specs.Steps.{sent_out};
+    ghost use Rattle.node_core.specs.Stands.{IsStanding, Stands, Does, quietly, plain_of};
+
+    /// A node at its start, connected, with this state id and member number. The size of the ring of
+    /// events, in bytes, is not used yet.
+    pub fn new(alloc: Global, id: &StateId, member: u32, _gcache: u64) -> Result<Node, NoMemory>
+        requires id { id.now ≢ nil_id }
+        requires ring { _gcache ≤ 16_777_216 }
+        ensures start { IfOk result (λ node. plain_of node ≡ start_node id.now member) }
+        ensures stands { IfOk result (λ node. (order : List Event) → Stands order node) }
+    {
+        Ok(Node {
+            alloc,
+            at: Progress {
+                phase: Phase::Connected,
+                member,
+                view: 1,
+                taken: 0,
+                certified: 0,
+                committed: 0,
+                serial: 1,
+                begin: 1,
+            },
+            id: *id,
+            live: Slots::new(alloc)?,
+            waiting: Slots::new(alloc)?,
+            queue: Queue::new(alloc),
+            inbox: Inbox::new(alloc),
+            fold: FoldState::empty(alloc)?,
+            passed: Passed::new(alloc),
+            units: Units::new(alloc),
+            locks: LockTable::new(alloc)?,
+            rows: Overlay::new(alloc)?,
+        })
+    }
+
+    /// The oldest message that waits to be ordered; None exactly where none does.
+    pub fn first_out(&self) -> Option<&Message>
+        ensures { option_copied result ≡ oldest self.now.queue.outbox }
+    {
+        self.queue.first_out()
+    }
+
+    /// The oldest message that waits counts as ordered.
+    pub fn sent_out(&mut self)
+        requires { 0 < length self.old.queue.outbox }
+        ensures { Does (quietly sent_out) self.old self.new tt }
+    {
+        self.queue.sent_out();
+    }
+
+    /// Where the node is.
+    pub fn place(&self) -> Place
+        ensures phase { result.phase ≡ self.now.at.phase }
+        ensures member { result.member ≡ self.now.at.member }
+        ensures view { result.view ≡ self.now.at.view }
+        ensures id { result.id ≡ self.now.id }
+        ensures outbox { result.outbox ≡ length self.now.queue.outbox }
+    {
+        Place {
+            phase: self.at.phase,
+            member: self.at.member,
+            view: self.at.view,
+            id: self.id,
+            outbox: self.queue.outbox_len(),
+        }
+    }
+
+    /// The last number that the node has taken from the order.
+    pub fn taken(&self) -> u64
+        ensures { result ≡ self.now.at.taken }
+    {
+        self.at.taken
+    }
+
+    /// The last number that the node has certified.
+    pub fn certified(&self) -> u64
+        ensures { result ≡ self.now.at.certified }
+    {
+        self.at.certified
+    }
+
+    /// How far the node has committed.
+    pub fn committed(&self) -> u64
+        ensures { result ≡ self.now.at.committed }
+    {
+        self.at.committed
+    }
+
+    /// The committed row.
+    pub fn committed_row(&self, id: &RowId) -> Option<Row>
+        ensures { (order : List Event) → Stands order self.now → result ≡ get (rows_at order self.now.at.committed) id.now }
+    {
+        self.rows.committed(id)
+    }
+
+    /// The committed rows, by table and then by row.
+    pub fn rows(&self) -> Result<RowList, NoMemory>
+        ensures { IfOk result (λ list. (order : List Event) → Stands order self.now → list ≡ row_items (rows_at order self.now.at.committed)) }
+    {
+        self.rows.walk()
+    }
+}

@@ -1,0 +1,185 @@
+ghost use Rattle.std.specs.Prelude.{◌≡◌, ◌≤◌, ◌+◌, List, Option, Some, None, IfOk, IfSome, OnOk, OnErr, IsTrue, false, option_map};
+ghost use Rattle.finite_map.specs.FiniteMap.{get};
+ghost use Rattle.key_sets.specs.Keys.{one_key};
+ghost use Rattle.write_set.specs.Rules.{row_parts};
+ghost use Rattle.node_meaning.specs.Client.{accepted_reply};
+
+use crate::node::Node;
+use crate::ranges::{change_in_range, place_in_range};
+use crate::refusal::{Met, hindrance, row_reply};
+use client_trx::{Added, Trx};
+use key_sets::{KeySet, Kind, Parts};
+use row_locks::Holder;
+use row_model::{Op, Reply, Row, RowId};
+use std::alloc::{AllocError, Global};
+use undo_rows::Rows;
+use wsrep_base::NoMemory;
+
+impl Node {
+    ghost use Rattle.row_model.specs.Names.{place_fits};
+    ghost use Rattle.write_set.specs.Rules.{parts_fit};
+    ghost use Rattle.client_trx.specs.KeyedOps.{IsKeyOf};
+    ghost use Rattle.client_trx.specs.Live.{Live, add_by};
+    ghost use Rattle.row_locks.specs.Locks.{granted};
+    ghost use Rattle.row_locks.specs.declared.holder.Holder.TheVariants.{Session};
+    ghost use Rattle.node_core.specs.Client.{hindrance};
+    ghost use Rattle.node_core.specs.Statement.{met_at, told_and_put, changes_after};
+    ghost use Rattle.order_event.specs.declared.event.Event.{Event};
+    ghost use Rattle.node_meaning.specs.Client.{statement, is_pending};
+    ghost use Rattle.node_core.specs.Stands.{IsStanding, Stands, Does, Unchanged};
+
+    /// A statement: it is refused, or its key and its change are added.
+    pub(crate) fn statement(
+        &mut self,
+        session: u8,
+        id: &RowId,
+        kind: Kind,
+        change: Option<Op>,
+    ) -> Result<Reply, NoMemory>
+        requires stands { IsStanding self.old }
+        requires session { (1 ≤ session) × (session ≤ 32) }
+        requires running { is_pending (get self.old.live session) ≡ false }
+        requires names { IsTrue (place_fits id.now) }
+        requires change { IfSome change (IsKeyOf (row_parts id.now) kind) }
+        ensures ok { IfOk result (Does (λ order n. statement order n session (get n.live session) (record { id = id.now; kind = kind; change = change })) self.old self.new) }
+        ensures err { OnErr result (Unchanged self.old self.new) }
+    {
+        let met = match self.meet(session, id, kind)? {
+            Some(met) => met,
+            None => return Ok(Reply::NoTrx),
+        };
+        match hindrance(&met, &change) {
+            Some(reply) => Ok(reply),
+            None => self.accept(session, id, kind, change, met),
+        }
+    }
+
+    // What a statement of the session's transaction meets; None where it has none.
+    fn meet(&self, session: u8, id: &RowId, kind: Kind) -> Result<Option<Met>, NoMemory>
+        ensures { IfOk result (λ met. met ≡ option_map (met_at self.now session id.now kind) (get self.now.live session)) }
+    {
+        let Some(trx) = self.live.get(session) else {
+            return Ok(None);
+        };
+        let parts = parts_of(id);
+        let key = key_of(self.alloc, &parts, kind)?;
+        Ok(Some(Met {
+            held: self.fold.held_by(trx.id(), &key),
+            blocker: self.locks.check(Holder::Session(session), &parts, kind),
+            row: self.rows.seen_by(session, id),
+        }))
+    }
+
+    // Nothing stands in the way of the statement but the size of its transaction.
+    fn accept(
+        &mut self,
+        session: u8,
+        id: &RowId,
+        kind: Kind,
+        change: Option<Op>,
+        met: Met,
+    ) -> Result<Reply, NoMemory>
+        requires session { (1 ≤ session) × (session ≤ 32) }
+        requires running { is_pending (get self.old.live session) ≡ false }
+        requires names { IsTrue (place_fits id.now) }
+        requires change { IfSome change (IsKeyOf (row_parts id.now) kind) }
+        requires met { Some met ≡ option_map (met_at self.old session id.now kind) (get self.old.live session) }
+        requires free { hindrance met.held met.blocker met.row change ≡ None }
+        ensures ok { IfOk result (Does (λ order n. statement order n session (get n.live session) (record { id = id.now; kind = kind; change = change })) self.old self.new) }
+        ensures err { OnErr result (Unchanged self.old self.new) }
+    {
+        let parts = parts_of(id);
+        place_in_range(id);
+        change_in_range(&change);
+        self.make_room()?;
+        match self.extend(session, &parts, kind, change)? {
+            Added::TooLarge => Ok(Reply::TooLarge),
+            Added::Done | Added::Fragment => {
+                self.hold(session, &parts, kind, &change);
+                Ok(accepted_reply(met.row, &change))
+            }
+        }
+    }
+
+    // Makes room for one more key and one more row, beside the rows of the units.
+    fn make_room(&mut self) -> Result<(), NoMemory>
+        ensures locks { OnOk result (1 ≤ self.new.locks.spare) }
+        ensures rows { OnOk result (self.old.units.room + 1 ≤ self.new.rows.spare) }
+        ensures same { Unchanged self.old self.new }
+    {
+        self.locks.reserve(1)?;
+        let room = self.room_with(1)?;
+        self.rows.reserve(room)
+    }
+
+    // The session's transaction gets one more key, and the change where there is one.
+    fn extend(
+        &mut self,
+        session: u8,
+        parts: &Parts,
+        kind: Kind,
+        change: Option<Op>,
+    ) -> Result<Added, NoMemory>
+        requires session { (1 ≤ session) × (session ≤ 32) }
+        requires running { is_pending (get self.old.live session) ≡ false }
+        requires names { IsTrue (parts_fit parts.now) }
+        requires change { IfSome change (IsKeyOf parts.now kind) }
+        ensures ok { IfOk result (λ told. (t : Live) → get self.old.live session ≡ Some t → (told, self.new) ≡ told_and_put self.old session (add_by t parts.now kind change)) }
+        ensures err { OnErr result (self.new ≡ self.old) }
+        ensures others { self.new ≡ record self.old { live = self.new.live } }
+    {
+        let Some(mut trx) = self.live.take(session) else {
+            return Ok(Added::TooLarge);
+        };
+        let added = trx.add(parts, kind, change);
+        self.live.put(session, trx);
+        added
+    }
+
+    // The key is locked and the row changed; there is room for both, and nobody stands in the way.
+    fn hold(&mut self, session: u8, parts: &Parts, kind: Kind, change: &Option<Op>)
+        requires locks { 1 ≤ self.old.locks.spare }
+        requires rows { 1 ≤ self.old.rows.spare }
+        ensures others { self.new ≡ record self.old { locks = self.new.locks; rows = self.new.rows } }
+        ensures locks { self.new.locks.locks ≡ (granted self.old.locks.locks (Session session) parts.now kind).1 }
+        ensures changes { self.new.rows.changes ≡ changes_after self.old.rows session change.now }
+        ensures committed { self.new.rows.committed ≡ self.old.rows.committed }
+        ensures spare { self.old.rows.spare ≤ self.new.rows.spare + 1 }
+    {
+        let _granted = self.locks.grant(Holder::Session(session), parts, kind);
+        if let Some(op) = change {
+            let _written = self.rows.write(session, op);
+        }
+    }
+}
+
+// The set of just one key.
+fn key_of(alloc: Global, parts: &Parts, kind: Kind) -> Result<KeySet, NoMemory>
+    ensures { IfOk result (λ key. key ≡ one_key parts.now kind) }
+{
+    let mut key = KeySet::new(alloc)?;
+    match key.add(parts, kind) {
+        Ok(()) => Ok(key),
+        Err(_) => Err(AllocError),
+    }
+}
+
+// A change that is accepted answers OK, and `share` the row.
+fn accepted_reply(row: Option<Row>, change: &Option<Op>) -> Reply
+    ensures { result ≡ accepted_reply row change.now }
+{
+    match change {
+        Some(_) => Reply::Done,
+        None => row_reply(row),
+    }
+}
+
+// The parts of the row's own key.
+fn parts_of(id: &RowId) -> Parts
+    ensures { result ≡ row_parts id.now }
+{
+    Parts {
+        table: id.table,
+        row: Some(id.row),
+    }
+}

@@ -1,0 +1,10 @@
+use Rattle.std.proofs.Common.{◌∙◌, ap, is_some}
+use Rattle.node_meaning.specs.Steps.{is_certified_at}
+use Rattle.node_parts.proofs.SearchLaws.{any_found}
+use Rattle.node_parts.proofs.UnitLaws.{some_mapped}
+use Rattle.node_parts.proofs.transactions.is_local.Goals as goal
+
+pub returns : goal.returns
+returns c =
+    c.is_some.ensures ∙ ap is_some c.find.ensures ∙ some_mapped (λ e. e.0) _
+    ∙ any_found (λ e. is_certified_at c.args.number e.1.status) c.args.live.now.entries

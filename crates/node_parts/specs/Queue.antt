@@ -1,0 +1,30 @@
+-- what a node sent: the messages that are ordered and not taken, and those that are not ordered
+use Rattle.std.specs.Prelude.{Bool, List, [], ◌∷◌, ◌++◌, Option, Some, None}
+use Rattle.order_event.specs.declared.event.Message.{Message}
+use Rattle.node_meaning.specs.Steps.{without_first}
+
+pub record Queued : Type 0 where
+  -- oldest first
+  pub ordered : List Message
+  pub outbox : List Message
+
+abbrev pub nothing_sent : Queued
+nothing_sent = record { ordered = []; outbox = [] }
+
+-- the oldest of some messages
+abbrev pub oldest : List Message → Option Message
+oldest [] = None
+oldest (m ∷ ms) = Some m
+
+-- one more message waits to be ordered
+abbrev pub queued : Queued → Message → Queued
+queued q m = record q { outbox = q.outbox ++ m ∷ [] }
+
+-- the oldest message that waits counts as ordered
+abbrev pub moved : Queued → List Message → Queued
+moved q [] = q
+moved q (m ∷ ms) = record { ordered = q.ordered ++ m ∷ []; outbox = ms }
+
+-- the first ordered message that passes the test is taken
+abbrev pub taken : (Message → Bool) → Queued → Queued
+taken test q = record q { ordered = without_first test q.ordered }

@@ -1,0 +1,18 @@
+//! The parts of a node, each with a contract of its own.
+#![tactic(auto)]
+
+mod inbox;
+mod passed;
+mod queue;
+mod slots;
+#[cfg(test)]
+mod tests;
+mod transactions;
+mod units;
+
+pub use inbox::Inbox;
+pub use passed::Passed;
+pub use queue::Queue;
+pub use slots::Slots;
+pub use transactions::{committer_of, is_local, session_of};
+pub use units::Units;

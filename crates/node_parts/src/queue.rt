@@ -1,0 +1,153 @@
+ghost use Rattle.std.specs.Prelude.{◌≡◌, ◌<◌, ◌≤◌, length, take, OnOk, OnErr};
+ghost use Rattle.std.specs.List.{find};
+ghost use Rattle.std.specs.Option.{option_copied};
+ghost use Rattle.order_event.specs.declared.event.Message.{Message};
+ghost use Rattle.node_parts.specs.Kinds.{is_kind, place};
+ghost use Rattle.node_meaning.specs.Steps.{is_write, is_report, is_this_write, without_first};
+
+use bytes::Bytes;
+use order_event::Message;
+use std::alloc::Global;
+use std::collections::VecDeque;
+use std::marker::Model;
+use wsrep_base::NoMemory;
+
+/// What a node sent: messages that are ordered and not taken, and behind them those that are not
+/// ordered yet.
+#[derive(Drop)]
+pub struct Queue {
+    messages: VecDeque<Message>,
+    ordered: usize,
+}
+
+impl Model for Queue {
+    ghost use Rattle.std.specs.Prelude.{◌≤◌, length, take, drop};
+    ghost use Rattle.node_parts.specs.Queue.{Queued};
+
+    ghost Value = { Queued };
+
+    ghost view = { λ q. record { ordered = take q.ordered q.messages.items; outbox = drop q.ordered q.messages.items } };
+
+    ghost invariant = { λ q. q.ordered ≤ length q.messages.items };
+}
+
+impl Queue {
+    ghost use Rattle.node_parts.specs.Queue.{Queued, nothing_sent, oldest, queued, moved, taken};
+
+    /// Nothing was sent. It takes no memory.
+    pub fn new(alloc: Global) -> Queue
+        ensures { result ≡ nothing_sent }
+    {
+        Queue {
+            messages: VecDeque::new(alloc),
+            ordered: 0,
+        }
+    }
+
+    /// One more message waits to be ordered.
+    pub fn push(&mut self, message: Message) -> Result<(), NoMemory>
+        ensures ok { OnOk result (self.new ≡ queued self.old message) }
+        ensures err { OnErr result (self.new ≡ self.old) }
+    {
+        self.messages.push_back(message)?;
+        Ok(())
+    }
+
+    /// Takes back the newest message that waits.
+    pub fn unsend(&mut self)
+        ensures { (queue : Queued) (message : Message) → self.old ≡ queued queue message → self.new ≡ queue }
+    {
+        if self.ordered < self.messages.len() {
+            self.messages.pop_back();
+        }
+    }
+
+    /// The oldest message that waits to be ordered.
+    pub fn first_out(&self) -> Option<&Message>
+        ensures { option_copied result ≡ oldest self.now.outbox }
+    {
+        self.messages.get(self.ordered)
+    }
+
+    /// The oldest message that waits is ordered from here on.
+    pub fn sent_out(&mut self)
+        requires { 0 < length self.old.outbox }
+        ensures { self.new ≡ moved self.old self.old.outbox }
+    {
+        self.ordered += 1;
+    }
+
+    /// How many messages wait to be ordered.
+    pub fn outbox_len(&self) -> u64
+        ensures { result ≡ length self.now.outbox }
+    {
+        (self.messages.len() - self.ordered) as u64
+    }
+
+    /// Whether these are the bytes of the oldest write set that is ordered and not taken.
+    pub fn is_next_write(&self, body: &Bytes) -> bool
+        ensures { result ≡ is_this_write body.now (find is_write self.now.ordered) }
+    {
+        match self.first_write() {
+            Some(Message::Write(other)) => body == other,
+            Some(Message::Report(_)) | None => false,
+        }
+    }
+
+    fn first_write(&self) -> Option<&Message>
+        ensures { option_copied result ≡ find is_write self.now.ordered }
+    {
+        match place_of(&self.messages, self.ordered, true) {
+            Some(at) => self.messages.get(at),
+            None => None,
+        }
+    }
+
+    /// The oldest write set that is ordered is taken.
+    pub fn take_write(&mut self)
+        ensures ordered { self.new.ordered ≡ without_first is_write self.old.ordered }
+        ensures outbox { self.new.outbox ≡ self.old.outbox }
+    {
+        self.take_first(true);
+    }
+
+    /// The oldest report that is ordered is taken.
+    pub fn take_report(&mut self)
+        ensures ordered { self.new.ordered ≡ without_first is_report self.old.ordered }
+        ensures outbox { self.new.outbox ≡ self.old.outbox }
+    {
+        self.take_first(false);
+    }
+
+    fn take_first(&mut self, write: bool)
+        ensures { self.new ≡ taken (is_kind write) self.old }
+    {
+        if let Some(at) = place_of(&self.messages, self.ordered, write) {
+            self.messages.remove(at);
+            self.ordered -= 1;
+        }
+    }
+}
+
+// Where the first of the ordered messages that is a write set, or a report, stands.
+fn place_of(messages: &VecDeque<Message>, ordered: usize, write: bool) -> Option<usize>
+    requires { ordered ≤ length messages.now.items }
+    ensures { result ≡ place (is_kind write) (take ordered messages.now.items) }
+{
+    for at in 0..ordered {
+        if is_kind(&messages[at], write) {
+            return Some(at);
+        }
+    }
+    None
+}
+
+// Whether the message is a write set, or else a report.
+fn is_kind(message: &Message, write: bool) -> bool
+    ensures { result ≡ is_kind write message.now }
+{
+    match message {
+        Message::Write(_) => write,
+        Message::Report(_) => !write,
+    }
+}

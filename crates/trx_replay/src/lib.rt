@@ -1,0 +1,8 @@
+//! When a victim whose commit passed may commit from its own write set.
+#![tactic(auto)]
+
+mod replay;
+#[cfg(test)]
+mod tests;
+
+pub use replay::ready;
