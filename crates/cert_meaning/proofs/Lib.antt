@@ -9,4 +9,5 @@ pub mod TrxLemmas
 pub mod MemberLemmas
 pub mod OpenLemmas
 pub mod ScanLemmas
+pub mod HalvesLemmas
 pub mod WholeLemmas

@@ -1,4 +1,5 @@
 pub mod State
+pub mod Search
 pub mod Verdict
 pub mod Fold
 pub mod Roomy

@@ -36,6 +36,10 @@ RiseWithin above most [] = Unit {0}
 RiseWithin above most (commit ∷ commits) =
     (above < commit.number) × (commit.number ≤ most) × RiseWithin commit.number most commits
 
+-- the numbers of the commits rise
+abbrev pub Rise : List CommitItem → Type 0
+Rise commits = (most : ℕ) × RiseWithin 0 most commits
+
 -- the commit with the number, if there is one
 abbrev pub commit_numbered : ℕ → List CommitItem → Option CommitItem
 commit_numbered n [] = None

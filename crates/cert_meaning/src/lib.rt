@@ -7,6 +7,7 @@ mod judging;
 mod members;
 mod open_table;
 mod row_table;
+mod search;
 mod sets;
 mod state;
 

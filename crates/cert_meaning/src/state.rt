@@ -1,6 +1,8 @@
-ghost use Rattle.std.specs.Prelude.{◌≡◌, IfOk};
+ghost use Rattle.std.specs.Prelude.{◌≡◌, IfOk, IsOk};
 ghost use Rattle.std.specs.Option.{option_copied};
 ghost use Rattle.cert_meaning.specs.State.{no_events, commit_numbered};
+ghost use Rattle.key_sets.specs.Keys.{touches};
+ghost use Rattle.cert_meaning.specs.Search.{commits_below, greatest_related};
 ghost use Rattle.cert_meaning.specs.Verdict.{held_by};
 
 mod step;
@@ -10,7 +12,8 @@ use crate::items::CommitItem;
 use crate::members::Members;
 use crate::open_table::OpenTable;
 use crate::row_table::RowTable;
-use key_sets::KeySet;
+use crate::search;
+use key_sets::{KeySet, Relation};
 use std::alloc::Global;
 use std::marker::Model;
 use wsrep_base::{NoMemory, TrxId};
@@ -44,6 +47,7 @@ impl FoldState {
     pub fn empty(alloc: Global) -> Result<FoldState, NoMemory>
         ensures state { IfOk result (λ s. s ≡ no_events) }
         ensures number { IfOk result (λ s. s.number ≡ 0) }
+        ensures succeeds { IsOk result }
     {
         Ok(FoldState {
             number: 0,
@@ -70,19 +74,20 @@ impl FoldState {
         self.commits.as_slice()
     }
 
-    /// The passed commit with this number. It costs the commits above the number.
+    /// The passed commit with this number. It costs a search by halves.
     pub fn commit_at(&self, number: u64) -> Option<&CommitItem>
         ensures { option_copied result ≡ commit_numbered number self.now.commits }
     {
-        for commit in self.commits.iter().rev() {
-            if commit.number == number {
-                return Some(commit);
-            }
-            if commit.number < number {
-                return None;
-            }
-        }
-        None
+        search::commit_numbered(self.commits.as_slice(), number)
+    }
+
+    /// The greatest passed commit above one number and below another whose keys touch. It costs
+    /// the commits between them, and a search by halves.
+    pub fn touching_between(&self, above: u64, below: u64, keys: &KeySet) -> Option<u64>
+        ensures { result ≡ greatest_related touches (commits_below below self.now.commits) above keys.now }
+    {
+        let commits = search::commits_below(self.commits.as_slice(), below);
+        search::greatest_related(Relation::Touch, commits, above, keys)
     }
 
     /// The greatest fragment of another open transaction whose keys touch.

@@ -1,5 +1,5 @@
 -- Keys and changes obey the rules of a write set, also with one more key and change.
-use Rattle.std.proofs.Common.{◌≡◌, ℕ, ◌+◌, ◌≤◌, Bool, true, false, cond, List, [], ◌∷◌, ◌++◌, length, Option, None, Some, refl, sym, ap, subst, ◌∙◌, arith}
+use Rattle.std.proofs.Common.{◌≡◌, ℕ, ◌+◌, Bool, true, false, cond, List, [], ◌∷◌, ◌++◌, length, Option, None, Some, refl, sym, ap, ◌∙◌, arith}
 use Rattle.std.specs.Prelude.{◌==◌, ◌||◌, ◌&&◌, nat_le, nat_lt, is_none, IfSome, IsTrue}
 use Rattle.std.specs.List.{list_all}
 use Rattle.std.specs.declared.cmp.Ordering.{Ordering}
@@ -15,12 +15,11 @@ use Rattle.key_sets.specs.Parts.{parts_cmp, same_parts}
 use Rattle.key_sets.specs.Keys.{Keys, LIMIT, with_key}
 use Rattle.key_sets.proofs.PartsLemmas.{parts_total, same_parts-exact, same_parts-itself}
 use Rattle.key_sets.proofs.WithKey.{get-with_key}
-use Rattle.row_model.specs.declared.row.RowId.{RowId}
 use Rattle.row_model.specs.declared.ops.Op.{Op}
 use Rattle.row_model.specs.declared.ops.Op.TheVariants as op
 use Rattle.row_model.specs.Rows.{id_of}
 use Rattle.write_set.specs.declared.write_set.WriteSet.{WriteSet}
-use Rattle.write_set.specs.Rules.{flags_fit, rollback_is_bare, parts_fit, keys_fit, op_fits, ops_fit, is_exclusive, is_update_kind, is_update, is_covered, row_parts, table_parts, uncovered_from, obeys}
+use Rattle.write_set.specs.Rules.{flags_fit, rollback_is_bare, parts_fit, keys_fit, op_fits, is_exclusive, is_update_kind, is_update, is_covered, row_parts, table_parts, uncovered_from, obeys}
 use Rattle.write_set.proofs.RulesOf.{both, and, obeyed}
 use Rattle.client_trx.specs.KeyedOps.{Keyed, with_op, with_change, is_over, key_of, IsKeyOf, IsFit}
 use Rattle.client_trx.specs.Live.{commit_flags}

@@ -1,5 +1,5 @@
 -- A part of a transaction is no larger than the whole, also with one more key and change on both.
-use Rattle.std.proofs.Common.{◌≡◌, ℕ, ◌+◌, ◌≤◌, Bool, true, false, cond, List, [], ◌∷◌, ◌++◌, length, Option, None, Some, refl, sym, ap, subst, ◌∙◌, arith, length-append}
+use Rattle.std.proofs.Common.{◌≡◌, ℕ, ◌≤◌, Bool, true, false, cond, List, [], ◌∷◌, length, Option, None, Some, refl, sym, ap, ◌∙◌, arith, length-append}
 use Rattle.std.specs.Prelude.{◌||◌, nat_lt, is_none, IfSome, option_map}
 use Rattle.std.specs.FinMap.Entries.{find}
 use Rattle.std.proofs.lemmas.Bool.Decides.{nat_tests}
@@ -8,7 +8,7 @@ use Rattle.key_sets.specs.declared.kind.Kind.{Kind}
 use Rattle.key_sets.specs.declared.parts.Parts.{Parts}
 use Rattle.key_sets.specs.Kinds.{raised}
 use Rattle.key_sets.specs.Parts.{parts_cmp, same_parts}
-use Rattle.key_sets.specs.Keys.{Keys, LIMIT, with_key, union}
+use Rattle.key_sets.specs.Keys.{Keys, LIMIT}
 use Rattle.key_sets.proofs.PartsLemmas.{same_parts-itself}
 use Rattle.key_sets.proofs.WithKey.{get-with_key}
 use Rattle.key_sets.proofs.Apart.{Apart-entries}

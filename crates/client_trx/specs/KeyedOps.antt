@@ -1,6 +1,6 @@
 -- Keys and changes of a transaction: their limits, and when each change is covered by a key.
-use Rattle.std.specs.Prelude.{◌≡◌, ℕ, ◌≤◌, Bool, ◌||◌, nat_lt, nat_le, List, [], ◌∷◌, ◌++◌, length, Option, Some, None, is_none, IfSome, IsTrue}
-use Rattle.finite_map.specs.FiniteMap.{empty, get, len}
+use Rattle.std.specs.Prelude.{◌≡◌, ◌≤◌, Bool, ◌||◌, nat_lt, nat_le, List, [], ◌∷◌, ◌++◌, length, Option, Some, None, is_none, IsTrue}
+use Rattle.finite_map.specs.FiniteMap.{get, len}
 use Rattle.key_sets.specs.declared.kind.Kind.{Kind}
 use Rattle.key_sets.specs.declared.kind.Kind.TheVariants as kind
 use Rattle.key_sets.specs.declared.parts.Parts.{Parts}

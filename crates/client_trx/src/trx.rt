@@ -117,6 +117,7 @@ impl Trx {
         requires change { IfSome op (λ op. IsKeyOf parts.now kind op) }
         ensures ok { IfOk result (λ told. (told, self.new) ≡ add_by self.old parts.now kind op) }
         ensures err { OnErr result (self.new ≡ self.old) }
+        ensures fits { OnErr result (is_too_large (added self.old parts.now kind op) ≡ false) }
     {
         if self.whole.is_over_with(parts, &op) {
             return Ok(Added::TooLarge);

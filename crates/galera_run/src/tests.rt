@@ -1,3 +1,8 @@
+mod refused;
+mod session;
+mod victims;
+
+use self::session::Session;
 use crate::program::galera_steps;
 use outside_io::{MemSink, MemSource};
 use std::alloc::{AllocError, Global};
@@ -302,5 +307,41 @@ fn step_lines_within_their_limit(rt: HostRuntime) -> Result<(), Fail> {
             "{steps} step lines"
         );
     }
+    Ok(())
+}
+
+// Three units of 4,096 rows each are started on another node before the first of them is finished.
+#[test]
+fn large_units_side_by_side(rt: HostRuntime) -> Result<(), Fail> {
+    let mut session = Session::of_nodes(rt.alloc(), "2")?;
+    session.lines(&["1 drain : AT 1", "2 drain : AT 1"])?;
+    for (insert, drained, told) in [
+        ("1.1 insert t r", "AT 2", "COMMITTED 2"),
+        ("1.1 insert u r", "AT 3", "COMMITTED 3"),
+        ("1.1 insert v r", "AT 4", "COMMITTED 4"),
+    ] {
+        session.line("1.1 begin", "OK")?;
+        for row in 0..4_096u64 {
+            session.numbered(insert, row, " 1", "OK")?;
+        }
+        session.line("1.1 commit", "PENDING")?;
+        session.line("1 drain", drained)?;
+        session.line("1.1 poll", told)?;
+    }
+    session.lines(&[
+        "2 take : TOOK 2",
+        "2 take : TOOK 3",
+        "2 take : TOOK 4",
+        "2 certify : PASS 2 COMMIT",
+        "2 certify : PASS 3 COMMIT",
+        "2 certify : PASS 4 COMMIT",
+        "2 start 4 : STARTED 4",
+        "2 start 3 : STARTED 3",
+        "2 start 2 : STARTED 2",
+        "2 drain : AT 4",
+        "2.1 read t r0 : ROW 1",
+        "2.1 read v r4095 : ROW 1",
+    ])?;
+    assert!(rt; session.is_answered(rt.alloc())?);
     Ok(())
 }

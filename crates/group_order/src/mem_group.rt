@@ -56,7 +56,7 @@ impl Group for MemGroup {
             return Ok(None);
         }
         let at = n as usize - 1;
-        Ok(Some(copy(&self.events.as_slice()[at])?))
+        Ok(Some(self.events.as_slice()[at].copy()?))
     }
 
     fn order(&mut self, member: u32, message: &Message) -> Result<u64, GroupFault> {
@@ -87,26 +87,6 @@ fn event_of(member: u32, message: &Message) -> Result<Event, NoMemory>
         },
         Message::Report(number) => Event::Report {
             member,
-            number: *number,
-        },
-    })
-}
-
-// The same event. The bytes of a write set are shared.
-fn copy(event: &Event) -> Result<Event, NoMemory>
-    ensures { IfOk result (λ same. same ≡ event.now) }
-{
-    Ok(match event {
-        Event::Write { member, body } => Event::Write {
-            member: *member,
-            body: body.clone()?,
-        },
-        Event::View { version, members } => Event::View {
-            version: *version,
-            members: members.copy()?,
-        },
-        Event::Report { member, number } => Event::Report {
-            member: *member,
             number: *number,
         },
     })

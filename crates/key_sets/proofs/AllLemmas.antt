@@ -1,15 +1,15 @@
 -- A test of all keys does not ask in which order they stand.
-use Rattle.std.proofs.Common.{◌≡◌, Bool, true, false, List, [], ◌∷◌, refl, sym, ap, subst, ◌∙◌}
+use Rattle.std.proofs.Common.{◌≡◌, Bool, true, false, List, [], ◌∷◌, refl, sym, ap, ◌∙◌}
 use Rattle.std.specs.Prelude.{◌&&◌}
 use Rattle.std.specs.List.{list_all}
 use Rattle.std.specs.declared.cmp.Ordering.{Ordering}
 use Rattle.std.specs.declared.cmp.Ordering.TheVariants.{Less, Equal, Greater}
 use Rattle.std.specs.FinMap.Entries.{put, by_order}
-use Rattle.finite_map.specs.FiniteMap.{empty, insert, entries-insert}
+use Rattle.finite_map.specs.FiniteMap.{empty, entries-insert}
 use Rattle.key_sets.specs.declared.kind.Kind.{Kind}
 use Rattle.key_sets.specs.declared.parts.Parts.{Parts}
 use Rattle.key_sets.specs.Parts.{parts_cmp}
-use Rattle.key_sets.specs.Keys.{Keys, keys_from}
+use Rattle.key_sets.specs.Keys.{keys_from}
 use Rattle.key_sets.proofs.PartsLemmas.{parts_total, parts_exact}
 
 -- whether all keys pass

@@ -1,5 +1,5 @@
 -- Which rows a set covers: of a union those of its parts, and two sets that cover one row conflict.
-use Rattle.std.proofs.Common.{◌≡◌, ℕ, Bool, true, false, ◌||◌, cond, ◌⊎◌, inl, inr, List, Option, None, Some, refl, sym, ap, ◌∙◌}
+use Rattle.std.proofs.Common.{◌≡◌, ℕ, Bool, true, false, ◌||◌, cond, ◌⊎◌, inl, inr, List, Option, None, Some, refl, ap, ◌∙◌}
 use Rattle.finite_map.specs.FiniteMap.{get}
 use Rattle.key_sets.specs.declared.kind.Kind.{Kind}
 use Rattle.key_sets.specs.declared.kind.Kind.TheVariants.{Shared, Update, Exclusive}
@@ -8,7 +8,7 @@ use Rattle.key_sets.specs.Kinds.{kinds_conflict, joined}
 use Rattle.key_sets.specs.Parts.{table_of}
 use Rattle.key_sets.specs.Keys.{Keys, conflicts, with_key, one_key, union}
 use Rattle.key_sets.specs.Laws.{CoversConflict}
-use Rattle.key_sets.specs.Meeting.{Has, HasRow, Meets, is_exclusive, is_change, covers}
+use Rattle.key_sets.specs.Meeting.{Has, Meets, is_exclusive, is_change, covers}
 use Rattle.key_sets.proofs.KindLaws.{kinds_conflict-symm}
 use Rattle.key_sets.proofs.PartsLemmas.{same_parts-itself}
 use Rattle.key_sets.proofs.MeetLemmas.{met}

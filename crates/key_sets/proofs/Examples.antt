@@ -1,9 +1,9 @@
 -- Worked pairs of key sets, each by computing the definitions.
 use Rattle.std.proofs.Common.{◌≡◌, ℕ, true, false, [], ◌∷◌, None, Some, refl}
-use Rattle.finite_map.specs.FiniteMap.{get, len}
+use Rattle.finite_map.specs.FiniteMap.{get}
 use Rattle.key_sets.specs.declared.kind.Kind.TheVariants.{Shared, Update, Exclusive}
 use Rattle.key_sets.specs.declared.parts.Parts.{Parts}
-use Rattle.key_sets.specs.Keys.{Keys, conflicts, touches, one_key, set_of, union, computing_keys}
+use Rattle.key_sets.specs.Keys.{conflicts, touches, one_key, set_of, union, computing_keys}
 
 whole : ℕ → Parts
 whole t = record { table = t ∷ []; row = None }

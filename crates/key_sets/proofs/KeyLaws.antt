@@ -7,16 +7,15 @@ pub use Rattle.key_sets.proofs.WithKey.{get-with_key, len-with_key, with_key-wit
 pub use Rattle.key_sets.proofs.UnionLemmas.{get-with_keys, get-union, with_keys-none, with_keys-cons, len-with_keys, len-with_keys-le, len-union-sum}
 pub use Rattle.key_sets.proofs.UnionLaws.{union-symm, union-empty, len-union-left, len-union-right, get-one_key, with_key-union, meet-union}
 pub use Rattle.key_sets.proofs.CoverLaws.{covers-union, covers-with_key, covers_one_key, conflicts_from_covers}
-use Rattle.std.proofs.Common.{◌≡◌, ℕ, Bool, true, false, ◌||◌, cond, ◌⊎◌, inl, inr, List, [], ◌∷◌, Option, None, Some, refl, sym, ap, subst, ◌∙◌, true≢false}
+use Rattle.std.proofs.Common.{◌≡◌, Bool, true, false, ◌||◌, cond, inl, inr, Option, None, Some, refl, sym, ap, ◌∙◌, true≢false}
 use Rattle.std.specs.List.{list_any}
 use Rattle.finite_map.specs.FiniteMap.{get, empty, get-empty}
 use Rattle.key_sets.specs.declared.kind.Kind.{Kind}
-use Rattle.key_sets.specs.declared.kind.Kind.TheVariants.{Shared, Update, Exclusive}
 use Rattle.key_sets.specs.declared.parts.Parts.{Parts}
-use Rattle.key_sets.specs.Kinds.{kinds_conflict, kinds_touch, raised, joined, stronger}
-use Rattle.key_sets.specs.Parts.{parts_cmp, same_parts, table_of}
+use Rattle.key_sets.specs.Kinds.{kinds_conflict, kinds_touch}
+use Rattle.key_sets.specs.Parts.{parts_cmp, same_parts}
 use Rattle.key_sets.specs.Keys.{Keys, meet, conflicts, touches, with_key, one_key, union}
-use Rattle.key_sets.specs.Meeting.{Has, HasRow, Meets, is_exclusive, is_change, covers}
+use Rattle.key_sets.specs.Meeting.{Has}
 use Rattle.key_sets.specs.Laws.{IsRising}
 use Rattle.key_sets.proofs.ListLemmas.{some_in, any_of, same_answer}
 

@@ -1,8 +1,8 @@
 -- The laws of the kinds: both relations are symmetric, a conflict is a touch, and a stronger kind meets what either meets.
-use Rattle.std.proofs.Common.{◌≡◌, Bool, true, ◌||◌, refl}
+use Rattle.std.proofs.Common.{◌≡◌, true, refl}
 use Rattle.key_sets.specs.declared.kind.Kind.{Kind}
 use Rattle.key_sets.specs.declared.kind.Kind.TheVariants.{Shared, Update, Exclusive}
-use Rattle.key_sets.specs.Kinds.{kinds_conflict, kinds_touch, stronger}
+use Rattle.key_sets.specs.Kinds.{kinds_conflict, kinds_touch}
 use Rattle.key_sets.specs.Laws.{IsSymmetric, IsRising}
 
 pub kinds_conflict-symm : IsSymmetric kinds_conflict

@@ -1,22 +1,19 @@
 -- The union of two key sets: it meets what either meets, and either may come first.
-use Rattle.std.proofs.Common.{◌≡◌, ℕ, ◌≤◌, Bool, true, false, ◌||◌, cond, ◌⊎◌, inl, inr, List, [], ◌∷◌, Option, None, Some, refl, sym, ap, subst, ◌∙◌}
-use Rattle.std.specs.List.{list_any}
-use Rattle.std.specs.FinMap.Entries.{find, put}
-use Rattle.finite_map.specs.FiniteMap.{get, len, empty, get-empty, get-insert, entries-insert, same_map}
+use Rattle.std.proofs.Common.{◌≡◌, ◌≤◌, Bool, true, false, ◌||◌, cond, ◌⊎◌, inl, inr, Option, None, Some, refl, sym, ap, subst, ◌∙◌}
+use Rattle.finite_map.specs.FiniteMap.{get, len, empty, get-empty, get-insert, same_map}
 use Rattle.key_sets.specs.declared.kind.Kind.{Kind}
 use Rattle.key_sets.specs.declared.kind.Kind.TheVariants.{Shared, Update, Exclusive}
 use Rattle.key_sets.specs.declared.parts.Parts.{Parts}
 use Rattle.key_sets.specs.Kinds.{raised, joined, stronger}
 use Rattle.key_sets.specs.Parts.{parts_cmp, same_parts}
-use Rattle.key_sets.specs.Keys.{Keys, meet, with_key, with_keys, one_key, union}
-use Rattle.key_sets.specs.Meeting.{Has, HasRow, Meets}
+use Rattle.key_sets.specs.Keys.{Keys, meet, with_key, one_key, union}
+use Rattle.key_sets.specs.Meeting.{Has, HasRow}
 use Rattle.key_sets.specs.Laws.{IsRising}
-use Rattle.key_sets.proofs.ListLemmas.{some_in, any_of, same_answer}
-use Rattle.key_sets.proofs.PartsLemmas.{parts_total, parts_exact, same_parts-exact, same_parts-itself}
-use Rattle.key_sets.proofs.Apart.{get_from_in, in_from_get}
+use Rattle.key_sets.proofs.ListLemmas.{same_answer}
+use Rattle.key_sets.proofs.PartsLemmas.{parts_total, parts_exact, same_parts-exact}
 use Rattle.key_sets.proofs.WithKey.{get-with_key}
 use Rattle.key_sets.proofs.UnionLemmas.{get-union, len-with_keys-le}
-use Rattle.key_sets.proofs.MeetLemmas.{from_meet, met, meet-symm}
+use Rattle.key_sets.proofs.MeetLemmas.{from_meet, met}
 
 stronger-symm : (k l : Kind) → stronger k l ≡ stronger l k
 stronger-symm Shared Shared = refl

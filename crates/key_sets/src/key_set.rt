@@ -1,4 +1,4 @@
-ghost use Rattle.std.specs.Prelude.{◌≡◌, ◌↔◌, ◌<◌, ◌≤◌, None, IfOk, OnOk, OnErr, IsErrOf, IsTrue};
+ghost use Rattle.std.specs.Prelude.{◌≡◌, ◌↔◌, ◌<◌, ◌≤◌, None, IfOk, OnOk, OnErr, IsErrOf, IsOk, IsTrue};
 ghost use Rattle.std.specs.List.{list_all};
 ghost use Rattle.finite_map.specs.FiniteMap as map;
 ghost use Rattle.key_sets.specs.Keys as keys;
@@ -11,7 +11,7 @@ use crate::parts::Parts;
 use crate::test::{PartsTest, all_admitted};
 use indexmap::IndexMap;
 use item_list::ItemList;
-pub use meeting::{conflicts, touches};
+pub use meeting::{conflicts, meet, touches};
 use std::alloc::{AllocError as NoMemory, Global};
 use std::marker::Model;
 
@@ -47,7 +47,8 @@ impl KeySet {
 
     /// An empty set. It takes no memory.
     pub fn new(alloc: Global) -> Result<KeySet, NoMemory>
-        ensures { IfOk result (λ set. set ≡ map.empty) }
+        ensures empty { IfOk result (λ set. set ≡ map.empty) }
+        ensures succeeds { IsOk result }
     {
         Ok(KeySet {
             kinds: IndexMap::new(alloc),

@@ -12,8 +12,9 @@ mod test;
 mod tests;
 
 pub use fault::KeyFault;
-pub use key_set::{KeyList, KeySet, conflicts, touches};
+pub use key_set::{KeyList, KeySet, conflicts, meet, touches};
 pub use kind::Kind;
 pub use laws::{key_set_laws, kind_laws};
 pub use parts::Parts;
+pub use relation::Relation;
 pub use test::PartsTest;

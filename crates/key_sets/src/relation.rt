@@ -3,9 +3,9 @@ ghost use Rattle.key_sets.specs.Probes.{kind_test, passes};
 
 use crate::kind::Kind;
 
-// In which way two key sets are compared.
-#[derive(Clone, Copy)]
-pub(crate) enum Relation {
+/// In which way two kinds, or two key sets, are compared.
+#[derive(Clone, Copy, Debug, PartialEq, Eq)]
+pub enum Relation {
     Conflict,
     Touch,
 }

@@ -1,9 +1,9 @@
 -- What the client calls of a node leave of it.
-use Rattle.std.proofs.Common.{◌≡◌, ◌≢◌, ◌≤◌, ◌<◌, ℕ, zero, suc, ◌+◌, Bool, true, false, cond, ◌&&◌, List, [], ◌∷◌, ◌++◌, length, take, drop, refl, sym, ap, subst, ◌∙◌, arith, true≢false}
+use Rattle.std.proofs.Common.{◌≡◌, ◌≤◌, ◌<◌, ℕ, zero, suc, ◌+◌, true, false, cond, ◌&&◌, List, [], ◌∷◌, length, take, drop, refl, sym, ap, subst, ◌∙◌, arith, true≢false}
 use Rattle.std.proofs.Math.Dec.{eqb-suc-zero}
-use Rattle.std.specs.Prelude.{Option, Some, None, is_some, not, ◌==◌, IsTrue, option_map}
+use Rattle.std.specs.Prelude.{Option, Some, None, is_some, not, ◌==◌, IsTrue}
 use Rattle.std.specs.Ordering.{nat_cmp}
-use Rattle.finite_map.specs.FiniteMap.{FiniteMap, get, insert, remove, contains_key, empty, len, len-empty}
+use Rattle.finite_map.specs.FiniteMap.{FiniteMap, get, insert, remove, contains_key, empty, len-empty}
 use Rattle.key_sets.specs.Parts.{parts_cmp}
 use Rattle.key_sets.specs.declared.kind.Kind.{Kind}
 use Rattle.row_model.specs.declared.row.RowId.{RowId}
@@ -28,7 +28,7 @@ use Rattle.node_meaning.proofs.LockLaws.{lock_keys, lock_of_live, locks_of-remov
 use Rattle.node_meaning.proofs.ClientFacts.{ended_keeps, begin_keeps, commit_keeps}
 use Rattle.node_core.specs.declared.node.Node.{Node}
 use Rattle.node_core.specs.Tabled.{Tabled}
-use Rattle.node_core.specs.Stands.{Stands, Tables, AreWorked, KeepsChanges, Unchanged, Moves, DoneOver, plain_of}
+use Rattle.node_core.specs.Stands.{Stands, Tables, AreWorked, Unchanged, Moves, DoneOver, plain_of}
 use Rattle.node_core.proofs.Tabling.{tabled_sees, tabled_committed, tabled-ended, tabled-same, tabled-begun}
 
 -- ---- what a node stands for goes along where its parts do

@@ -1,12 +1,9 @@
 -- A node that stands for an order stands for every order that goes on from it.
-use Rattle.std.proofs.Common.{◌≡◌, ℕ, zero, suc, ◌+◌, ◌≤◌, ◌<◌, List, [], ◌∷◌, ◌++◌, length, Option, None, Some, refl, sym, ap, subst, ◌∙◌, arith, drop}
+use Rattle.std.proofs.Common.{◌≡◌, ℕ, zero, suc, ◌≤◌, List, [], ◌∷◌, ◌++◌, length, Some, refl, sym, ap, subst, ◌∙◌, arith, drop}
 use Rattle.std.specs.Prelude.{slice_get, IsTrue, is_some}
 use Rattle.std.proofs.lemmas.List.{take-append-le}
 use Rattle.order_event.specs.declared.event.Event.{Event}
-use Rattle.row_model.specs.declared.ops.Op.{Op}
-use Rattle.row_model.specs.Rows.{Rows}
-use Rattle.finite_map.specs.FiniteMap.{get}
-use Rattle.apply_unit.specs.Task.{ModelTask, task}
+use Rattle.apply_unit.specs.Task.{task}
 use Rattle.cert_meaning.specs.State.{FoldState}
 use Rattle.cert_meaning.specs.Fold.{state_at}
 use Rattle.cert_meaning.proofs.FoldLaws.{state_at-append}
@@ -14,12 +11,11 @@ use Rattle.node_meaning.specs.declared.progress.Stage.{Stage}
 use Rattle.node_meaning.specs.declared.progress.Stage.TheVariants as stage
 use Rattle.node_meaning.specs.Node.{ApplyUnit, rows_at}
 use Rattle.node_meaning.specs.Units.{ops_at, ops_by, rows_before, unit_task, images_of, named_rows}
-use Rattle.node_meaning.specs.Facts.{commit_at}
 use Rattle.node_meaning.proofs.GrowFacts.{facts_grow, commit_at-append}
 use Rattle.node_parts.specs.Units.{Work}
 use Rattle.node_core.specs.declared.node.Node.{Node}
 use Rattle.node_core.specs.Tabled.{Tabled}
-use Rattle.node_core.specs.Stands.{Stands, Tables, AreWorked, IsWorked, HasTask, KeepsChanges}
+use Rattle.node_core.specs.Stands.{Stands, AreWorked, IsWorked, HasTask, KeepsChanges}
 
 get_front : {A : Type 0} (xs ys : List A) (n : ℕ) → suc n ≤ length xs → slice_get (xs ++ ys) n ≡ slice_get xs n
 get_front [] ys n below = absurd (omega (arith, below))

@@ -17,6 +17,5 @@ pub mod Statements
 pub mod TabledWrites
 pub mod Tabling
 pub mod TakeCalls
-pub mod TouchingCalls
 pub mod UnitLocks
 pub mod UnitRows

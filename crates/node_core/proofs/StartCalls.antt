@@ -1,18 +1,18 @@
 -- Starting a unit: which step it is by what was read, and the task that it gives.
-use Rattle.std.proofs.Common.{◌≡◌, ℕ, ◌≤◌, ◌<◌, Bool, true, false, cond, List, [], ◌∷◌, length, Option, Some, None, refl, sym, ap, subst, ◌∙◌, arith, true≢false, lt-ltb, eqb-true}
-use Rattle.std.specs.Prelude.{is_some, nat_lt, ◌==◌, unwrap_or}
+use Rattle.std.proofs.Common.{◌≡◌, ℕ, ◌≤◌, ◌<◌, Bool, true, false, cond, List, [], ◌∷◌, length, Option, Some, None, Result, Ok, Err, refl, sym, ap, subst, ◌∙◌, arith, true≢false, lt-ltb, eqb-true}
+use Rattle.std.specs.Prelude.{OnErr, is_some, nat_lt, ◌==◌, ◌&&◌, map, unwrap_or}
 use Rattle.std.specs.List.{filter}
 use Rattle.finite_map.specs.FiniteMap.{get}
 use Rattle.wsrep_base.specs.Trx.{greatest}
-use Rattle.key_sets.specs.Keys.{Keys}
+use Rattle.key_sets.specs.Keys.{Keys, touches}
 use Rattle.row_model.specs.declared.ops.Op.{Op}
 use Rattle.order_event.specs.declared.event.Event.{Event}
 use Rattle.order_event.specs.declared.step.Answer.{Answer}
 use Rattle.order_event.specs.declared.step.Answer.TheVariants as answer
 use Rattle.cert_meaning.specs.declared.items.CommitItem.{CommitItem}
-use Rattle.cert_meaning.specs.State.{FoldState, RiseWithin, commit_numbered}
+use Rattle.cert_meaning.specs.State.{FoldState, commit_numbered}
+use Rattle.cert_meaning.specs.Search.{is_related, commits_below, greatest_related}
 use Rattle.cert_meaning.specs.Fold.{state_at}
-use Rattle.cert_meaning.proofs.CommitLaws.{commits-rise}
 use Rattle.apply_unit.specs.Results.{Image}
 use Rattle.apply_unit.specs.Task.{ModelTask, task}
 use Rattle.node_meaning.specs.Node.{ModelNode, ApplyUnit, ahead, passed_at, rows_at}
@@ -22,7 +22,12 @@ use Rattle.node_meaning.proofs.PassedLaws.{passed-committed, from_passed, none_t
 use Rattle.node_meaning.proofs.UnitLaws.{task-clear}
 use Rattle.node_core.specs.declared.node.Node.{Node}
 use Rattle.node_core.specs.Stands.{Stands, DoneOver, plain_of}
-use Rattle.node_core.specs.Starting.{CanStart, Rise, unit_started}
+use Rattle.node_core.specs.Starting.{CanStart, unit_started}
+
+-- what holds anyway holds where there is a fault
+pub on_err : {A B P : Type 0} (r : Result A B) → P → OnErr r P
+on_err (Ok a) holds = tt
+on_err (Err b) holds = holds
 
 -- ---- the task
 pub task_given : (order : List Event) (node : Node) (number : ℕ) (keys : Keys) (ops : List Op) (images : List Image) (made : ModelTask)
@@ -61,9 +66,35 @@ numbered_ahead committed number [] after = refl
 numbered_ahead committed number (c ∷ cs) after =
     skipped committed number c cs (nat_lt committed c.number) (c.number == number) refl refl after (numbered_ahead committed number cs after)
 
--- the newest of some commits in the way of a unit
-abbrev pub sought_in : ℕ → ℕ → Keys → List CommitItem → Option ℕ
-sought_in committed number keys commits = greatest (touching_before (filter (λ c. nat_lt committed c.number) commits) number keys)
+-- to search between two numbers is to search those above the one for what is below the other
+module _ (committed number : ℕ) (keys : Keys) where
+  abbrev related : CommitItem → Bool
+  related = is_related touches committed keys
+
+  abbrev before : CommitItem → Bool
+  before c = nat_lt c.number number && touches c.keys keys
+
+  one_more : (c : CommitItem) (xs ys : List CommitItem) (below above : Bool) → nat_lt c.number number ≡ below → nat_lt committed c.number ≡ above
+      → filter related xs ≡ filter before ys → filter related (cond below (c ∷ xs) xs) ≡ filter before (cond above (c ∷ ys) ys)
+  one_more c xs ys true true is_below is_above rest =
+      ap (λ b. cond (b && touches c.keys keys) (c ∷ filter related xs) (filter related xs)) is_above
+      ∙ ap (λ cs. cond (touches c.keys keys) (c ∷ cs) cs) rest
+      ∙ sym (ap (λ b. cond (b && touches c.keys keys) (c ∷ filter before ys) (filter before ys)) is_below)
+  one_more c xs ys true false is_below is_above rest =
+      ap (λ b. cond (b && touches c.keys keys) (c ∷ filter related xs) (filter related xs)) is_above ∙ rest
+  one_more c xs ys false true is_below is_above rest =
+      rest ∙ sym (ap (λ b. cond (b && touches c.keys keys) (c ∷ filter before ys) (filter before ys)) is_below)
+  one_more c xs ys false false is_below is_above rest = rest
+
+  same_between : (cs : List CommitItem) → filter related (commits_below number cs) ≡ filter before (filter (λ (c : CommitItem). nat_lt committed c.number) cs)
+  same_between [] = refl
+  same_between (c ∷ cs) =
+      one_more c (commits_below number cs) (filter (λ (c : CommitItem). nat_lt committed c.number) cs)
+      (nat_lt c.number number) (nat_lt committed c.number) refl refl (same_between cs)
+
+  pub between_is : (cs : List CommitItem) → greatest_related touches (commits_below number cs) committed keys
+      ≡ greatest (touching_before (filter (λ (c : CommitItem). nat_lt committed c.number) cs) number keys)
+  between_is cs = ap (λ found. greatest (map (λ (c : CommitItem). c.number) found)) (same_between cs)
 
 -- the node stands as it did
 stays : (order : List Event) (node : Node) (number : ℕ) (a : Answer) → Stands order node → (a, plain_of node) ≡ start_step order (plain_of node) number
@@ -171,11 +202,3 @@ module _ (order : List Event) (node : Node) (number : ℕ) (stands : Stands orde
           same = done.same ∙ sym (after_is ∙ ap (start_after n number commit.keys) none);
           stands = done.stands;
         }
-
--- the numbers of the commits that a node keeps rise
-pub commits_rise : (order : List Event) (node : Node) → Stands order node → Rise node.fold.commits
-commits_rise order node stands = (
-  node.at.certified,
-  subst (λ (s : FoldState). RiseWithin 0 node.at.certified s.commits) (sym stands.fold)
-      (commits-rise order node.at.certified (omega (arith, stands.facts.in_order.certified_fits, stands.facts.in_order.taken_fits))),
-)

@@ -1,6 +1,6 @@
 -- What a statement meets, and what it leaves of a node.
-use Rattle.std.proofs.Common.{◌≡◌, ◌≤◌, ℕ, ◌+◌, Bool, true, false, cond, List, [], ◌∷◌, ◌++◌, Result, Ok, Err, refl, sym, ap, subst, ◌∙◌, arith, true≢false}
-use Rattle.std.specs.Prelude.{Option, Some, None, IfOk, OnErr, IfSome, IsTrue, option_map, is_some, not, nat_lt, ◌||◌}
+use Rattle.std.proofs.Common.{◌≡◌, ◌≤◌, ℕ, ◌+◌, Bool, true, false, cond, List, [], ◌∷◌, Result, Ok, Err, refl, sym, ap, subst, ◌∙◌, arith, true≢false}
+use Rattle.std.specs.Prelude.{Option, Some, None, IfOk, OnErr, IfSome, option_map, nat_lt, ◌||◌}
 use Rattle.std.specs.Ordering.{nat_cmp, eq_by_cmp}
 use Rattle.std.specs.Cmp.{nat_cmp_total}
 use Rattle.std.specs.FinMap.{nat_cmp-IsAntisymmetric}
@@ -18,7 +18,6 @@ use Rattle.row_model.specs.declared.calls.Reply.TheVariants as reply
 use Rattle.order_event.specs.declared.event.Event.{Event}
 use Rattle.write_set.specs.Rules.{row_parts}
 use Rattle.cert_meaning.specs.Verdict.{held_by}
-use Rattle.cert_meaning.specs.Fold.{state_at}
 use Rattle.client_trx.specs.Live.{Live, add_by, added_unless, is_due, is_too_large, has_locks}
 use Rattle.client_trx.specs.KeyedOps.{IsKeyOf, with_op}
 use Rattle.client_trx.specs.declared.status.Added.TheVariants as added
@@ -29,13 +28,13 @@ use Rattle.row_locks.specs.Locks.{blocker, granted, granted_unless}
 use Rattle.undo_rows.specs.RowTable.{written, written_unless}
 use Rattle.row_model.specs.Rows.{id_of}
 use Rattle.row_model.specs.declared.calls.Call.{Call}
-use Rattle.node_meaning.specs.Node.{ModelNode, is_left, is_joining, rows_at, seen_rows, locks_of, set_live}
+use Rattle.node_meaning.specs.Node.{ModelNode, is_left, is_joining, rows_at, locks_of, set_live}
 use Rattle.node_meaning.specs.Client as client
 use Rattle.node_meaning.specs.Client.{first_line, where_true, refusal, met_by, extended, statement, statement_by, accepted_reply, is_pending}
 use Rattle.node_meaning.proofs.EntryLaws.{number-exact}
 use Rattle.node_core.specs.declared.node.Node.{Node}
 use Rattle.node_core.specs.declared.refusal.Met.{Met}
-use Rattle.node_core.specs.Client.{hindrance, of_row, closed_by}
+use Rattle.node_core.specs.Client.{hindrance, closed_by}
 use Rattle.node_core.specs.Statement.{met_at, told_and_put, changes_after}
 use Rattle.node_core.specs.Tabled.{Tabled}
 use Rattle.node_meaning.specs.Facts.{Facts}

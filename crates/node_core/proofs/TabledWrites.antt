@@ -1,6 +1,6 @@
 -- What a statement that changes a row leaves of a table of rows.
 use Rattle.std.proofs.Common.{◌≡◌, ℕ, Bool, true, false, List, [], ◌∷◌, ◌++◌, refl, sym, ap, subst, ◌∙◌, cond, ◌||◌, true≢false}
-use Rattle.std.specs.Prelude.{Option, Some, None, ◌==◌, is_none}
+use Rattle.std.specs.Prelude.{Option, Some, None, ◌==◌}
 use Rattle.std.proofs.lemmas.Bool.{eqb-true, eq-eqb}
 use Rattle.std.specs.Ordering.{nat_cmp, eq_by_cmp}
 use Rattle.std.specs.Cmp.{nat_cmp_total}
@@ -15,8 +15,8 @@ use Rattle.key_sets.proofs.KeyLaws.{covers_one_key, conflicts_from_covers, touch
 use Rattle.row_model.specs.declared.row.RowId.{RowId}
 use Rattle.row_model.specs.declared.ops.Op.{Op}
 use Rattle.row_model.specs.declared.ops.Op.TheVariants as op
-use Rattle.row_model.specs.Rows.{Rows, row_cmp, row_after, id_of, op_on, ops_on}
-use Rattle.row_model.specs.RowOrder.{row_eq, row_total, row_ties, row_tied, row_same, row_itself}
+use Rattle.row_model.specs.Rows.{Rows, row_cmp, row_after, id_of, ops_on}
+use Rattle.row_model.specs.RowOrder.{row_total, row_ties, row_same, row_itself}
 use Rattle.write_set.specs.Rules.{row_parts}
 use Rattle.apply_unit.specs.RowChanges.{names_row}
 use Rattle.apply_unit.proofs.RowLemmas.{get-op_on, ops_on-append}

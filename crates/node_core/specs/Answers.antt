@@ -5,7 +5,6 @@ use Rattle.node_meaning.specs.declared.progress.Stage.{Stage}
 use Rattle.node_meaning.specs.declared.progress.Stage.TheVariants as stage
 use Rattle.node_meaning.specs.Node.{ApplyUnit}
 use Rattle.node_meaning.specs.Units.{unit_task}
-use Rattle.row_model.specs.declared.calls.Reply.{Reply}
 use Rattle.order_event.specs.declared.step.Answer.{Answer}
 use Rattle.order_event.specs.declared.step.Answer.TheVariants as answer
 use Rattle.node_core.specs.declared.answers.Taken.{Taken}

@@ -1,16 +1,10 @@
 -- when a node of the code stands for the model node over an order, and what a call of it does
-use Rattle.std.specs.Prelude.{◌≡◌, ◌≤◌, ◌<◌, ℕ, Bool, true, List, length, take, drop, Option, Some, None, is_some, IsTrue}
-use Rattle.std.specs.List.{list_any}
-use Rattle.std.specs.Ordering.{nat_cmp, eq_by_cmp}
+use Rattle.std.specs.Prelude.{◌≡◌, ◌≤◌, ◌<◌, ℕ, List, length, take, drop, Some, None, is_some, IsTrue}
+use Rattle.std.specs.Ordering.{nat_cmp}
 use Rattle.finite_map.specs.FiniteMap.{FiniteMap, get, contains_key}
-use Rattle.row_model.specs.declared.row.RowId.{RowId}
 use Rattle.row_model.specs.declared.ops.Op.{Op}
-use Rattle.row_model.specs.Rows.{Rows, row_cmp, id_of, ops_on}
 use Rattle.order_event.specs.declared.event.Event.{Event}
-use Rattle.order_event.specs.declared.step.Answer.{Answer}
 use Rattle.cert_meaning.specs.Fold.{state_at}
-use Rattle.client_trx.specs.Live.{Live, has_locks}
-use Rattle.undo_rows.specs.RowTable.{RowTable}
 use Rattle.node_meaning.specs.declared.progress.Stage.{Stage}
 use Rattle.node_meaning.specs.declared.progress.Stage.TheVariants as stage
 use Rattle.node_meaning.specs.Node.{ModelNode, ApplyUnit, locks_of, rows_at}

@@ -11,7 +11,6 @@ use Rattle.row_model.specs.Rows.{Rows}
 use Rattle.order_event.specs.declared.event.Event.{Event}
 use Rattle.order_event.specs.declared.step.Answer.TheVariants as answer
 use Rattle.cert_meaning.specs.declared.items.CommitItem.{CommitItem}
-use Rattle.cert_meaning.specs.State.{RiseWithin}
 use Rattle.row_locks.specs.declared.holder.Holder.{Holder}
 use Rattle.row_locks.specs.declared.holder.Holder.TheVariants.{Unit as UnitHolder}
 use Rattle.row_locks.specs.Holders.{same_holder}
@@ -68,10 +67,6 @@ IsClear locks number keys = (g : Holder) → same_holder (UnitHolder number) g �
 -- the locks once the unit has these keys too
 abbrev pub unit_locked : Locks → ℕ → List (Parts × Kind) → Locks
 unit_locked locks number keys = fold (λ all key. with_lock all (UnitHolder number) key.0 key.1) locks keys
-
--- the numbers of the commits rise
-abbrev pub Rise : List CommitItem → Type 0
-Rise commits = (most : ℕ) × RiseWithin 0 most commits
 
 -- nobody is in the way of any of these keys
 abbrev pub AllClear : Locks → ℕ → List (Parts × Kind) → Type 0

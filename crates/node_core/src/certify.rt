@@ -25,6 +25,7 @@ impl Node {
         requires stands { IsStanding self.old }
         ensures ok { IfOk result (λ r. Does (λ order n. certify_step order n) self.old self.new (certified_answer r)) }
         ensures err { OnErr result (Unchanged self.old self.new) }
+        ensures some { OnErr result (self.old.at.certified ≡ self.old.at.taken → ⊥) }
     {
         if self.at.certified == self.at.taken {
             return Ok(Certified::Nothing);

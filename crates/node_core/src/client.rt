@@ -1,4 +1,4 @@
-ghost use Rattle.std.specs.Prelude.{◌≡◌, ◌≤◌, ◌<◌, ◌^◌, List, IfOk, OnErr, IsTrue, false};
+ghost use Rattle.std.specs.Prelude.{◌≡◌, ◌≤◌, ◌<◌, ◌^◌, List, None, IfOk, OnErr, IsTrue, false};
 ghost use Rattle.finite_map.specs.FiniteMap.{get};
 
 use crate::node::Node;
@@ -22,7 +22,8 @@ impl Node {
     ghost use Rattle.node_core.specs.Client.{closed_by};
     ghost use Rattle.node_core.specs.Stands.{IsStanding, Stands, Does, Unchanged, Moves};
 
-    /// What a session, 1 to 32, is answered when it makes a call.
+    /// What a session, 1 to 32, is answered when it makes a call. An answer that waits, and one that
+    /// comes before the table of calls, takes no memory.
     pub fn client(&mut self, session: u8, call: &Call) -> Result<Reply, NoMemory>
         requires stands { IsStanding self.old }
         requires session { (1 ≤ session) × (session ≤ 32) }
@@ -31,6 +32,7 @@ impl Node {
         requires begin { self.old.at.begin < 2 ^ 63 }
         ensures ok { IfOk result (Does (λ order n. client order n session call.now) self.old self.new) }
         ensures err { OnErr result (Unchanged self.old self.new) }
+        ensures open { OnErr result ((get self.old.waiting session ≡ None) × (closed_by self.old.at (get self.old.live session) ≡ None)) }
     {
         if let Some(reply) = self.waiting.take(session) {
             return Ok(reply);

@@ -1,20 +1,16 @@
-ghost use Rattle.std.specs.Prelude.{◌≡◌, ◌+◌, ◌<◌, ◌≤◌, ◌^◌, nat_lt, List, [], length, fold, IfOk, OnOk, OnErr};
-ghost use Rattle.std.specs.List.{filter};
+ghost use Rattle.std.specs.Prelude.{◌≡◌, ◌+◌, ◌<◌, ◌≤◌, ◌^◌, List, [], length, fold, IfOk, OnOk, OnErr};
 ghost use Rattle.std.specs.Option.{unwrap_or};
 ghost use Rattle.finite_map.specs.FiniteMap.{get};
-ghost use Rattle.wsrep_base.specs.Trx.{greatest};
 ghost use Rattle.client_trx.specs.Live as live;
-ghost use Rattle.node_meaning.specs.Steps as steps;
-ghost use Rattle.node_core.specs.Starting.{Rise, unit_locked, AllClear};
+ghost use Rattle.node_core.specs.Starting.{unit_locked, AllClear};
 
 use crate::answers::Started;
 use crate::node::Node;
 use apply_unit::Task;
 use bf_abort::victims;
-use cert_meaning::CommitItem;
 use client_trx::{Outcome, Status};
 use indexmap::IndexSet;
-use key_sets::{KeySet, Kind, Parts, touches};
+use key_sets::{KeySet, Kind, Parts};
 use node_parts::is_local;
 use row_locks::{Holder, LockTable};
 use row_model::{ImageList, OpList};
@@ -23,6 +19,7 @@ use undo_rows::Rows;
 use wsrep_base::{NoMemory, SessionList};
 
 impl Node {
+    ghost use Rattle.key_sets.specs.Keys.{Keys};
     ghost use Rattle.order_event.specs.declared.event.Event.{Event};
     ghost use Rattle.order_event.specs.declared.step.Answer.TheVariants as answer;
     ghost use Rattle.node_meaning.specs.Steps.{start_step, kill_session};
@@ -32,12 +29,13 @@ impl Node {
     ghost use Rattle.node_core.specs.Starting.{CanStart, IsStartedOver, unit_started, Aborts};
 
     /// Starts the unit of the passed commit with this number: the transactions whose locks touch
-    /// it are aborted. All memory is taken first.
+    /// it are aborted. All memory is taken first; a unit that cannot start yet takes none.
     pub fn start(&mut self, number: u64) -> Result<Started, NoMemory>
         requires stands { IsStanding self.old }
         ensures ok { IfOk result (λ r. Does (λ order n. start_step order n number) self.old self.new (started_answer number r)) }
         ensures task { IfOk result (λ r. (order : List Event) → Stands order self.old → GivesTask order number r) }
         ensures err { OnErr result (Unchanged self.old self.new) }
+        ensures clear { OnErr result ((order : List Event) → Stands order self.old → (keys : Keys) × CanStart order self.old number keys) }
     {
         if number <= self.at.committed || self.units.contains(number) {
             return Ok(Started::NoUnit);
@@ -48,8 +46,8 @@ impl Node {
         if is_local(&self.live, number) {
             return Ok(Started::Local);
         }
-        let commits = self.fold.commits();
-        if let Some(earlier) = touching_before(commits, self.at.committed, number, &commit.keys) {
+        let committed = self.at.committed;
+        if let Some(earlier) = self.fold.touching_between(committed, number, &commit.keys) {
             return Ok(Started::NotYet(earlier));
         }
         let keys = commit.keys.copy()?;
@@ -170,27 +168,6 @@ impl Node {
             Outcome::Ends(reply) => self.waiting.put(session, reply),
         }
     }
-}
-
-// The greatest passed commit that is not committed, is below the number and touches the keys.
-fn touching_before(
-    commits: &[CommitItem],
-    committed: u64,
-    number: u64,
-    keys: &KeySet,
-) -> Option<u64>
-    requires { Rise commits.now }
-    ensures { result ≡ greatest (steps.touching_before (filter (λ c. nat_lt committed c.number) commits.now) number keys.now) }
-{
-    for commit in commits.iter().rev() {
-        if commit.number <= committed {
-            return None;
-        }
-        if commit.number < number && touches(&commit.keys, keys) {
-            return Some(commit.number);
-        }
-    }
-    None
 }
 
 // The unit has the keys; there is room for them, and nobody stands in the way.

@@ -1,4 +1,4 @@
-ghost use Rattle.std.specs.Prelude.{◌≡◌, ◌<◌, ◌^◌, ◌+◌, ℕ, List, Some, slice_get, IfOk, OnErr};
+ghost use Rattle.std.specs.Prelude.{◌≡◌, ◌<◌, ◌^◌, ◌+◌, ℕ, List, Some, slice_get, IfOk, OnErr, IsTrue};
 ghost use Rattle.std.specs.List.{find};
 ghost use Rattle.node_meaning.specs.Node.{is_connected};
 
@@ -28,6 +28,7 @@ impl Node {
             → Stands order self.old → DoneOver order (take_step order) self.old self.new (taken_answer r)) }
         ensures split { IfOk result (λ r. (n : ℕ) → r ≡ taken.Split n → n ≡ self.old.at.taken + 1) }
         ensures err { OnErr result (Unchanged self.old self.new) }
+        ensures there { OnErr result (IsTrue (is_connected self.old.at.phase)) }
     {
         if !is_connected(self.at.phase) {
             return Ok(Taken::Away);

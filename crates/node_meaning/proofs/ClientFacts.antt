@@ -20,7 +20,6 @@ use Rattle.client_trx.specs.KeyedOps.{IsKeyOf, with_op, is_over}
 use Rattle.client_trx.specs.Live.{Live, begun, is_running, is_sent, has_locks, with_status, whole_of, commit_flags, commit_of}
 use Rattle.client_trx.specs.declared.status.Status.{Status}
 use Rattle.client_trx.specs.declared.status.Status.TheVariants as status
-use Rattle.row_locks.specs.Locks.{blocker}
 use Rattle.node_meaning.specs.Node.{ModelNode, is_left, is_joining, set_live, end_live}
 use Rattle.node_meaning.specs.Client.{Statement, inserting, updating, deleting, sharing, Met, first_line, where_true, is_insert, busy_reply, missing_column, refusal, extended, met_by, statement_by, accepted_reply, statement, begin_call, send_commit, commit_call, rollback_call, served, is_pending, asked, told_first, client}
 use Rattle.node_meaning.specs.Steps.{is_local, is_certified_at}

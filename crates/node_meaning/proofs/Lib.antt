@@ -17,4 +17,6 @@ pub mod StartImages
 pub mod StartNode
 pub mod TakeFacts
 pub mod UnitLaws
+pub mod WorkedNames
 pub mod WorkedRows
+pub mod WorkedUnits

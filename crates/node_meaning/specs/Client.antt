@@ -1,11 +1,9 @@
 -- what a client call is answered, and the node after it
-use Rattle.std.specs.Prelude.{ℕ, ◌+◌, ◌==◌, ◌&&◌, ◌||◌, nat_lt, Bool, true, false, not, List, [], ◌∷◌, ◌++◌, length, Option, Some, None, is_some, is_none, option_map, if◌then◌else◌}
-use Rattle.finite_map.specs.FiniteMap.{get, insert, remove}
-use Rattle.wsrep_base.specs.declared.ids.TrxId.{TrxId}
+use Rattle.std.specs.Prelude.{ℕ, ◌+◌, ◌==◌, ◌&&◌, ◌||◌, nat_lt, Bool, true, false, not, List, [], ◌∷◌, length, Option, Some, None, is_some, is_none, option_map, if◌then◌else◌}
+use Rattle.finite_map.specs.FiniteMap.{get, remove}
 use Rattle.key_sets.specs.declared.kind.Kind.{Kind}
 use Rattle.key_sets.specs.declared.kind.Kind.TheVariants as kind
-use Rattle.key_sets.specs.declared.parts.Parts.{Parts}
-use Rattle.key_sets.specs.Keys.{Keys, one_key}
+use Rattle.key_sets.specs.Keys.{one_key}
 use Rattle.row_model.specs.declared.row.RowId.{RowId}
 use Rattle.row_model.specs.declared.ops.Op.{Op}
 use Rattle.row_model.specs.declared.ops.Op.TheVariants as op
@@ -13,7 +11,6 @@ use Rattle.row_model.specs.declared.calls.Call.{Call}
 use Rattle.row_model.specs.declared.calls.Call.TheVariants as call
 use Rattle.row_model.specs.declared.calls.Reply.{Reply}
 use Rattle.row_model.specs.declared.calls.Reply.TheVariants as reply
-use Rattle.row_model.specs.Rows.{Rows}
 use Rattle.order_event.specs.declared.event.Event.{Event}
 use Rattle.write_set.specs.Rules.{row_parts}
 use Rattle.cert_meaning.specs.Verdict.{held_by}

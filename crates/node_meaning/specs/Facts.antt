@@ -1,10 +1,9 @@
 -- what holds of a node over the order at every moment; every step keeps it
-use Rattle.std.specs.Prelude.{◌≡◌, ◌≤◌, ◌<◌, ◌⊎◌, ℕ, ◌+◌, ◌-◌, ◌==◌, Bool, true, false, List, [], ◌∷◌, ◌++◌, take, drop, slice_get, Option, Some, None, option_map, IsTrue, length, ◌^◌, ◌≢◌, if◌then◌else◌}
+use Rattle.std.specs.Prelude.{◌≡◌, ◌≤◌, ◌<◌, ℕ, ◌-◌, ◌==◌, false, List, [], ◌∷◌, ◌++◌, take, drop, Option, Some, None, option_map, IsTrue, length, ◌^◌, ◌≢◌, if◌then◌else◌}
 use Rattle.std.specs.List.{filter_map, AllByRecursion}
 use Rattle.std.specs.Ordering.{nat_cmp}
 use Rattle.finite_map.specs.FiniteMap.{FiniteMap, get}
-use Rattle.wsrep_base.specs.declared.ids.TrxId.{TrxId}
-use Rattle.key_sets.specs.Keys.{Keys, touches}
+use Rattle.key_sets.specs.Keys.{touches}
 use Rattle.row_model.specs.declared.calls.Call.{Call}
 use Rattle.row_model.specs.declared.calls.Call.TheVariants as call
 use Rattle.row_model.specs.declared.ops.Op.TheVariants as op

@@ -1,9 +1,8 @@
 -- the model of a node: no rows, no index and no locks of its own. Its rows are those of the fold at what it has committed.
-use Rattle.std.specs.Prelude.{ℕ, ◌+◌, ◌==◌, nat_lt, Bool, true, false, List, [], ◌∷◌, ◌++◌, Option, Some, None, is_some, option_map, if◌then◌else◌}
+use Rattle.std.specs.Prelude.{ℕ, ◌+◌, ◌==◌, nat_lt, Bool, true, false, List, [], ◌∷◌, ◌++◌, Option, Some, None, if◌then◌else◌}
 use Rattle.std.specs.List.{filter, filter_map}
 use Rattle.std.specs.Ordering.{nat_cmp}
 use Rattle.finite_map.specs.FiniteMap.{FiniteMap, empty, insert, remove, from_entries, len}
-use Rattle.wsrep_base.specs.declared.ids.TrxId.{TrxId}
 use Rattle.key_sets.specs.Keys.{Keys}
 use Rattle.row_model.specs.declared.calls.Reply.{Reply}
 use Rattle.row_model.specs.Rows.{Rows, ops_on}

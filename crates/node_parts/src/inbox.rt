@@ -1,4 +1,4 @@
-ghost use Rattle.std.specs.Prelude.{◌≡◌, ◌<◌, ◌∷◌, ◌++◌, [], length, IfOk, OnOk, OnErr, drop, slice_get};
+ghost use Rattle.std.specs.Prelude.{◌≡◌, ◌<◌, ◌∷◌, ◌++◌, [], length, OnOk, OnErr, drop, slice_get};
 ghost use Rattle.std.specs.Option.{option_copied};
 
 use order_event::Event;
@@ -37,7 +37,7 @@ impl Inbox {
         ensures ok { OnOk result (self.new ≡ self.old ++ event.now ∷ []) }
         ensures err { OnErr result (self.new ≡ self.old) }
     {
-        self.events.push_back(copy(event)?)?;
+        self.events.push_back(event.copy()?)?;
         Ok(())
     }
 
@@ -55,24 +55,4 @@ impl Inbox {
     {
         self.events.pop_front();
     }
-}
-
-// The same event. The bytes of a write set are shared.
-fn copy(event: &Event) -> Result<Event, NoMemory>
-    ensures { IfOk result (λ same. same ≡ event.now) }
-{
-    Ok(match event {
-        Event::Write { member, body } => Event::Write {
-            member: *member,
-            body: body.clone()?,
-        },
-        Event::View { version, members } => Event::View {
-            version: *version,
-            members: members.copy()?,
-        },
-        Event::Report { member, number } => Event::Report {
-            member: *member,
-            number: *number,
-        },
-    })
 }

@@ -5,6 +5,7 @@ ghost use Rattle.node_parts.specs.Sessions.{is_wanted};
 
 use crate::slots::Slots;
 use client_trx::{Status, Trx};
+use trx_replay::ready;
 
 // What a transaction is looked for by.
 #[derive(Clone, Copy, Debug, PartialEq, Eq)]
@@ -59,7 +60,7 @@ fn is_wanted(trx: &Trx, wanted: Wanted) -> bool
         Wanted::Begin(begin) => trx.begin_number() == begin,
         Wanted::CertifiedAt(number) => is_certified_at(trx.status(), number),
         Wanted::CommitsAt(number) => {
-            is_certified_at(trx.status(), number) || is_replaying_at(trx.status(), number)
+            is_certified_at(trx.status(), number) || is_replaying_at(trx, number)
         }
     }
 }
@@ -77,15 +78,11 @@ fn is_certified_at(status: Status, number: u64) -> bool
     }
 }
 
-fn is_replaying_at(status: Status, number: u64) -> bool
-    ensures { result ≡ steps.is_replaying_at number status }
+fn is_replaying_at(trx: &Trx, number: u64) -> bool
+    ensures { result ≡ steps.is_replaying_at number trx.now.status }
 {
-    match status {
-        Status::Replaying(own) => number == own,
-        Status::Running
-        | Status::FragmentSent
-        | Status::CommitSent
-        | Status::Certified(_)
-        | Status::KilledSent => false,
+    match ready(trx) {
+        Some(own) => number == own,
+        None => false,
     }
 }

@@ -1,5 +1,8 @@
+ghost use Rattle.std.specs.Prelude.{◌≡◌, IfOk};
+
 use bytes::Bytes;
 use item_list::ItemList;
+use wsrep_base::NoMemory;
 
 // The byte that begins the spelling of each kind of event.
 pub(crate) const WRITE_TAG: u8 = 1;
@@ -17,6 +20,28 @@ pub enum Event {
     View { version: u32, members: MemberList },
     /// A member has committed all events up to this number.
     Report { member: u32, number: u64 },
+}
+
+impl Event {
+    /// The same event. The bytes of a write set are shared.
+    pub fn copy(&self) -> Result<Event, NoMemory>
+        ensures { IfOk result (λ event. event ≡ self.now) }
+    {
+        Ok(match self {
+            Event::Write { member, body } => Event::Write {
+                member: *member,
+                body: body.clone()?,
+            },
+            Event::View { version, members } => Event::View {
+                version: *version,
+                members: members.copy()?,
+            },
+            Event::Report { member, number } => Event::Report {
+                member: *member,
+                number: *number,
+            },
+        })
+    }
 }
 
 /// Events, in order.

@@ -1,4 +1,4 @@
-ghost use Rattle.std.specs.Prelude.{◌≡◌, ◌+◌, ◌<◌, ◌≤◌, ◌&&◌, not, cond, None, is_some, IfOk, OnOk, OnErr, IsOk};
+ghost use Rattle.std.specs.Prelude.{◌≡◌, ◌+◌, ◌<◌, ◌≤◌, ◌&&◌, not, cond, None, is_some, IfOk, OnOk, OnErr, IsOk, IsSome};
 ghost use Rattle.std.specs.List.{list_any};
 ghost use Rattle.std.specs.HashMap.{spare};
 ghost use Rattle.std.specs.Map.{lookup};
@@ -65,7 +65,8 @@ impl Model for LockTable {
 impl LockTable {
     /// No locks. It takes no memory.
     pub fn new(alloc: Global) -> Result<LockTable, NoMemory>
-        ensures { IfOk result (λ table. table.locks ≡ empty) }
+        ensures locks { IfOk result (λ table. table.locks ≡ empty) }
+        ensures succeeds { IsOk result }
     {
         Ok(LockTable {
             locks: HashMap::new(alloc),
@@ -81,6 +82,7 @@ impl LockTable {
         ensures busy { OnErr result (blocker self.old.locks holder parts.now kind ≡ None) }
         ensures succeeds { 0 < self.old.spare → IsOk result }
         ensures spare { self.old.spare ≤ self.new.spare + 1 }
+        ensures refused { IsSome (blocker self.old.locks holder parts.now kind) → self.old.spare ≤ self.new.spare }
     {
         if let Some(other) = self.check(holder, parts, kind) {
             return Ok(Grant::Busy(other));
@@ -105,6 +107,7 @@ impl LockTable {
     /// Makes room for so many keys that are granted.
     pub fn reserve(&mut self, keys: usize) -> Result<(), NoMemory>
         ensures ok { OnOk result (keys ≤ self.new.spare) }
+        ensures succeeds { keys ≤ self.old.spare → IsOk result }
         ensures locks { self.new.locks ≡ self.old.locks }
         ensures spare { self.old.spare ≤ self.new.spare }
     {

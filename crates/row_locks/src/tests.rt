@@ -56,6 +56,7 @@ fn sessions_that_touch_are_listed(rt: HostRuntime) -> Result<(), Fail> {
         assert_eq!(rt; outcome, Grant::Held);
     }
     let mut keys = KeySet::new(rt.alloc())?;
+    assert!(rt; locks.touching(&keys)?.is_empty());
     keys.add(&parts_at(b't', 1), Kind::Shared)?;
     keys.add(&parts_at(b't', 2), Kind::Shared)?;
     let sessions = locks.touching(&keys)?;

@@ -26,7 +26,8 @@ pub trait Rows {
         ensures owned { OnErr result (other_owner owner (get (table self.old).changes (id_of op.now)) ≡ None) }
         ensures committed { (table self.new).committed ≡ (table self.old).committed }
         ensures succeeds { 0 < (table self.old).spare → IsOk result }
-        ensures spare { (table self.old).spare ≤ (table self.new).spare + 1 };
+        ensures spare { (table self.old).spare ≤ (table self.new).spare + 1 }
+        ensures refused { IsSome (other_owner owner (get (table self.old).changes (id_of op.now))) → (table self.old).spare ≤ (table self.new).spare };
 
     /// Drops an owner's changes.
     fn roll_back(&mut self, owner: u8)

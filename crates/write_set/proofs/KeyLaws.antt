@@ -1,28 +1,20 @@
 -- Keys: what is read are keys in order, and keys in order are read again.
-use Rattle.std.proofs.Common.{◌≡◌, ℕ, zero, suc, ◌+◌, ◌^◌, ◌<◌, ◌≤◌, Bool, true, false, cond, ltb, eqb, List, [], ◌∷◌, ◌++◌, length, Option, Some, None, Result, Ok, Err, refl, sym, ap, subst, ◌∙◌, append_assoc, arith}
-use Rattle.std.specs.Prelude.{◌==◌, ◌||◌, ◌&&◌, not, nat_lt, nat_le, IfSome, T}
-use Rattle.std.specs.Int.{w8, w32, to_be_bytes}
+use Rattle.std.proofs.Common.{◌≡◌, ℕ, zero, suc, ◌+◌, ◌<◌, ◌≤◌, Bool, true, false, cond, List, [], ◌∷◌, ◌++◌, length, Option, Some, None, Ok, refl, sym, ap, subst, ◌∙◌, append_assoc, arith}
+use Rattle.std.specs.Prelude.{◌==◌, ◌||◌, not, nat_lt, IfSome}
 use Rattle.std.specs.List.{list_all, flat_map, AllByRecursion}
-use Rattle.std.specs.Ordering.{is_lt}
-use Rattle.std.specs.FinMap.Entries.{put, find, is_sorted, below_all, by_order}
-use Rattle.std.proofs.lemmas.Bool.{ltb-false, le-ltb, leb-true, le-leb, eqb-true}
-use Rattle.finite_map.specs.FiniteMap.{FiniteMap, empty, get, insert, len, entries-insert, same_entries_map}
+use Rattle.std.proofs.lemmas.Bool.{eqb-true}
 use Rattle.key_sets.specs.declared.kind.Kind.{Kind}
 use Rattle.key_sets.specs.declared.kind.Kind.TheVariants as kind
 use Rattle.key_sets.specs.declared.parts.Parts.{Parts}
-use Rattle.key_sets.specs.Parts.{parts_cmp}
-use Rattle.key_sets.specs.Keys.{Keys, with_key, with_keys}
-use Rattle.key_sets.proofs.PartsLemmas.{parts_total}
-use Rattle.write_set.specs.declared.fault.WsFault.{WsFault}
 use Rattle.write_set.specs.declared.names.NameRole.TheVariants as role
-use Rattle.write_set.specs.Names.{is_name, is_table_letter, is_row_letter}
-use Rattle.write_set.specs.Rules.{row_fits, parts_fit, keys_fit, parts_in_range}
-use Rattle.write_set.specs.Spelling.{name_text, kind_byte, parts_byte, row_text, key_text, keys_text}
+use Rattle.write_set.specs.Names.{is_name, is_table_letter}
+use Rattle.write_set.specs.Rules.{row_fits, parts_fit, parts_in_range}
+use Rattle.write_set.specs.Spelling.{name_text, kind_byte, parts_byte, row_text, key_text}
 use Rattle.write_set.specs.Place.{Place}
-use Rattle.write_set.specs.Reading.{◌>>=◌, Read, name_at, number_at, kind_of_byte, key_row_at, key_at, is_above, some_keys_at, with_read, keys_at}
+use Rattle.write_set.specs.Reading.{◌>>=◌, name_at, kind_of_byte, key_row_at, key_at, is_above, some_keys_at}
 use Rattle.write_set.proofs.RulesOf.{both, and}
-use Rattle.write_set.proofs.Bounds.{neither, is_not, within, is_within, above}
-use Rattle.write_set.proofs.Fields.{IsBytes, read_ok, passed, ok_is, place, Took, took_none, took_then, number_takes, number_again, wide32, byte_takes, byte_again}
+use Rattle.write_set.proofs.Bounds.{is_not, within}
+use Rattle.write_set.proofs.Fields.{IsBytes, read_ok, passed, ok_is, place, Took, took_none, took_then, byte_takes, byte_again}
 use Rattle.write_set.proofs.NameLaws.{name_takes, name_again}
 
 -- ---- one key

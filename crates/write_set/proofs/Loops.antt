@@ -1,6 +1,6 @@
 -- Reading several values one behind the other, as a loop does.
-use Rattle.std.proofs.Common.{◌≡◌, ℕ, suc, ◌+◌, ◌-◌, ◌<◌, ◌≤◌, Bool, true, false, cond, is_some, List, [], ◌∷◌, ◌++◌, length, take, drop, set, replicate, ◌⊎◌, Option, Some, None, Result, Ok, Err, refl, sym, ap, ◌∙◌, append_assoc, arith}
-use Rattle.std.specs.Prelude.{◌==◌, ◌||◌, not, nat_le, nat_lt}
+use Rattle.std.proofs.Common.{◌≡◌, ℕ, suc, ◌+◌, ◌-◌, ◌<◌, ◌≤◌, true, false, cond, is_some, List, [], ◌∷◌, ◌++◌, length, take, drop, set, replicate, ◌⊎◌, Option, Some, None, Ok, Err, refl, sym, ap, ◌∙◌, append_assoc, arith}
+use Rattle.std.specs.Prelude.{◌==◌, ◌||◌, nat_lt}
 use Rattle.std.specs.Int.{w8, w64}
 use Rattle.std.proofs.lemmas.Bool.{le-leb, lt-leb}
 use Rattle.std.proofs.lemmas.Bool.Decides.{nat_tests}
@@ -14,7 +14,7 @@ use Rattle.key_sets.proofs.WithKey.{len-with_key}
 use Rattle.write_set.specs.declared.fault.WsFault.{WsFault}
 use Rattle.write_set.specs.declared.fault.WsFault.TheVariants.{NotCanonical, BadChange}
 use Rattle.write_set.specs.Place.{Place}
-use Rattle.write_set.specs.Reading.{◌>>=◌, Read, Fails, refuse, number_at, many_at, some_columns_at, key_at, is_above, some_keys_at, with_read}
+use Rattle.write_set.specs.Reading.{◌>>=◌, Read, Fails, number_at, many_at, some_columns_at, key_at, is_above, some_keys_at, with_read}
 use Rattle.write_set.proofs.Steps.{fails_along}
 
 -- what was read before, and what is still read

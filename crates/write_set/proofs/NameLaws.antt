@@ -1,9 +1,7 @@
 -- Names: what is read is a name, and a name is read again.
-use Rattle.std.proofs.Common.{◌≡◌, ℕ, zero, suc, ◌+◌, ◌-◌, ◌<◌, ◌≤◌, Bool, true, false, cond, ltb, eqb, leb, List, [], ◌∷◌, ◌++◌, length, take, drop, replicate, Option, Some, None, Result, Ok, Err, refl, sym, ap, subst, ◌∙◌, arith}
-use Rattle.std.specs.Prelude.{◌==◌, ◌||◌, ◌&&◌, not, nat_lt, nat_le}
-use Rattle.std.specs.Int.{w8}
+use Rattle.std.proofs.Common.{◌≡◌, ℕ, zero, suc, ◌+◌, ◌-◌, ◌<◌, ◌≤◌, Bool, true, false, cond, List, [], ◌∷◌, ◌++◌, length, take, drop, replicate, Option, Some, None, Result, Ok, refl, sym, ap, subst, ◌∙◌, arith}
+use Rattle.std.specs.Prelude.{◌==◌, ◌||◌, ◌&&◌, not, nat_lt}
 use Rattle.std.specs.List.{list_all, prefix_len, position, position_from}
-use Rattle.std.proofs.lemmas.Bool.{ltb-false, le-ltb, leb-true}
 use Rattle.std.proofs.lemmas.Bool.Decides.{nat_tests}
 use Rattle.std.proofs.lemmas.List.{take_at, drop_at, take-append-drop, length-append, length-take-le, length-drop, length-replicate}
 use Rattle.std.proofs.lemmas.List.Sums.{prefix_len-le-length}
@@ -14,7 +12,7 @@ use Rattle.write_set.specs.declared.names.NameRole.TheVariants as role
 use Rattle.write_set.specs.Names.{admits, name_len, letters, padded, is_name}
 use Rattle.write_set.specs.Spelling.{name_text}
 use Rattle.write_set.specs.Place.{Place}
-use Rattle.write_set.specs.Reading.{◌>>=◌, bad_letter, fault_of, bytes_at, number_at, name_at}
+use Rattle.write_set.specs.Reading.{◌>>=◌, bad_letter, fault_of, name_at}
 use Rattle.write_set.proofs.RulesOf.{both, and}
 use Rattle.write_set.proofs.Bounds.{is_no, positive, some_is, within, is_within}
 use Rattle.write_set.proofs.Fields.{IsBytes, read_ok, passed, ok_is, place, Took, took_then, bytes_take, bytes_again, byte_takes, byte_again}

@@ -1,23 +1,22 @@
 -- Changes: what is read is a change in its form, and such a change is read again.
-use Rattle.std.proofs.Common.{◌≡◌, ℕ, zero, suc, ◌+◌, ◌-◌, ◌^◌, ◌<◌, ◌≤◌, Bool, true, false, cond, List, [], ◌∷◌, ◌++◌, length, replicate, Option, Some, None, Result, Ok, Err, refl, sym, ap, subst, ◌∙◌, append_assoc, arith}
-use Rattle.std.specs.Prelude.{◌==◌, ◌||◌, ◌&&◌, not, nat_lt, nat_le, IfSome}
-use Rattle.std.specs.Int.{w8, w32, w64, to_be_bytes}
-use Rattle.std.specs.List.{list_all, flat_map, AllByRecursion}
-use Rattle.std.proofs.lemmas.Bool.{ltb-false, le-ltb, leb-true, leb-false, le-leb, lt-leb, eqb-true}
+use Rattle.std.proofs.Common.{◌≡◌, ℕ, zero, suc, ◌+◌, ◌-◌, ◌^◌, ◌<◌, ◌≤◌, Bool, true, false, cond, List, [], ◌∷◌, ◌++◌, length, replicate, Option, Some, None, Ok, refl, sym, ap, subst, ◌∙◌, append_assoc, arith}
+use Rattle.std.specs.Prelude.{◌==◌, ◌||◌, not, nat_lt, nat_le}
+use Rattle.std.specs.Int.{w8, w64, to_be_bytes}
+use Rattle.std.specs.List.{flat_map, AllByRecursion}
+use Rattle.std.proofs.lemmas.Bool.{leb-false, lt-leb, eqb-true}
 use Rattle.std.proofs.lemmas.Bool.Decides.{nat_tests}
 use Rattle.std.proofs.lemmas.List.{append-nil, length-append, length-replicate}
 use Rattle.row_model.specs.declared.row.RowId.{RowId}
 use Rattle.row_model.specs.declared.ops.Op.{Op}
 use Rattle.row_model.specs.declared.ops.Op.TheVariants.{Insert, Update, Delete}
-use Rattle.write_set.specs.declared.fault.WsFault.{WsFault}
 use Rattle.write_set.specs.declared.names.NameRole.TheVariants as role
 use Rattle.write_set.specs.Names.{is_name, is_table_letter, is_row_letter}
 use Rattle.write_set.specs.Rules.{place_fits, op_fits, place_in_range, IsCell, OpInRange}
 use Rattle.write_set.specs.Spelling.{name_text, place_text, values_text, row_values_text, named, columns_text, change_text, op_text}
 use Rattle.write_set.specs.Place.{Place}
-use Rattle.write_set.specs.Reading.{◌>>=◌, Read, name_at, number_at, many_at, place_at, count_at, values_at, some_columns_at, columns_at, op_body_at, op_at}
+use Rattle.write_set.specs.Reading.{◌>>=◌, Read, number_at, many_at, place_at, count_at, values_at, some_columns_at, columns_at, op_at}
 use Rattle.write_set.proofs.RulesOf.{both, and}
-use Rattle.write_set.proofs.Bounds.{neither, is_not, is_no, positive, some_is, within, is_within, above}
+use Rattle.write_set.proofs.Bounds.{is_no, positive, some_is, within, is_within}
 use Rattle.write_set.proofs.Fields.{IsBytes, read_ok, passed, ok_is, place, Took, took_none, took_then, number_takes, number_again, wide64, byte_takes, byte_again}
 use Rattle.write_set.proofs.NameLaws.{name_takes, name_again}
 

@@ -1,7 +1,7 @@
 -- Keys and changes within other bytes: what is read stands there, and what stands there is read.
-use Rattle.std.proofs.Common.{◌≡◌, ℕ, ◌+◌, ◌-◌, ◌≤◌, Bool, true, false, List, ◌∷◌, ◌++◌, length, drop, Result, Ok, Err, refl, sym, ap, subst, ◌∙◌, arith}
+use Rattle.std.proofs.Common.{◌≡◌, ℕ, ◌+◌, ◌-◌, ◌≤◌, false, List, ◌++◌, length, drop, Result, Ok, Err, refl, sym, ap, subst, ◌∙◌, arith}
 use Rattle.std.specs.Prelude.{IfOk, nat_le}
-use Rattle.std.specs.List.{list_all, AllByRecursion}
+use Rattle.std.specs.List.{list_all}
 use Rattle.std.proofs.lemmas.List.{append_cancel_left, drop-drop, drop_at, length-append, length-drop}
 use Rattle.key_sets.specs.Keys.{Keys}
 use Rattle.row_model.specs.declared.ops.Op.{Op}
@@ -10,12 +10,11 @@ use Rattle.write_set.specs.Laws.{StandsBetween, AreKeys, AreOps, with_rest}
 use Rattle.write_set.specs.Rules.{KeysInRange, OpsInRange, op_fits}
 use Rattle.write_set.specs.Spelling.{keys_text, ops_text}
 use Rattle.write_set.specs.Place.{Place, place_in}
-use Rattle.write_set.specs.Reading.{◌>>=◌, Read, Fails, Gives, behind, keys_at, ops_at}
+use Rattle.write_set.specs.Reading.{Read, Gives, behind, keys_at, ops_at}
 use Rattle.write_set.proofs.RulesOf.{both, and}
 use Rattle.write_set.proofs.Steps.{fails_along}
 use Rattle.write_set.proofs.Fields.{IsBytes, IsBytes-drop, read_ok, ok_is, place, Took}
 use Rattle.write_set.proofs.SetLaws.{keys_take, keys_again}
-use Rattle.write_set.proofs.OpLaws.{OpFits}
 use Rattle.write_set.proofs.WholeLaws.{all_fit, each_fits, ops_take, ops_again}
 
 stands : (bytes : List ℕ) (at : ℕ) (text : List ℕ) (q : Place) → at ≤ length bytes → Took (place_in bytes at) text q → StandsBetween bytes at q.at text

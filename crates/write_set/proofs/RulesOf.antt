@@ -1,11 +1,11 @@
 -- The rules of a write set, one by one.
-use Rattle.std.proofs.Common.{◌≡◌, ℕ, ◌≤◌, Bool, true, false, length, refl}
-use Rattle.std.specs.Prelude.{◌&&◌, nat_le, IsTrue, is_none}
+use Rattle.std.proofs.Common.{◌≡◌, ◌≤◌, Bool, true, false, length, refl}
+use Rattle.std.specs.Prelude.{◌&&◌, nat_le, is_none}
 use Rattle.std.specs.List.{list_all}
 use Rattle.std.proofs.lemmas.Bool.{leb-true}
 use Rattle.finite_map.specs.FiniteMap.{len}
 use Rattle.write_set.specs.declared.write_set.WriteSet.{WriteSet}
-use Rattle.write_set.specs.Rules.{flags_fit, rollback_is_bare, keys_fit, op_fits, ops_fit, uncovered_from, obeys}
+use Rattle.write_set.specs.Rules.{flags_fit, rollback_is_bare, keys_fit, op_fits, uncovered_from, obeys}
 
 pub both : (a b : Bool) → a && b ≡ true → (a ≡ true) × (b ≡ true)
 both true true e = (refl, refl)

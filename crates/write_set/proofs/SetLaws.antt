@@ -1,26 +1,25 @@
 -- Keys in order are the entries of their set, and the keys of a set are read again.
-use Rattle.std.proofs.Common.{◌≡◌, ℕ, ◌+◌, ◌^◌, ◌<◌, ◌≤◌, Bool, true, false, cond, List, [], ◌∷◌, ◌++◌, length, Option, Some, None, Result, Ok, Err, refl, sym, ap, subst, ◌∙◌, append_assoc, arith}
-use Rattle.std.specs.Prelude.{◌&&◌, nat_lt, nat_le, T}
+use Rattle.std.proofs.Common.{◌≡◌, ℕ, ◌+◌, ◌^◌, ◌≤◌, Bool, true, false, cond, List, [], ◌∷◌, ◌++◌, length, Option, Some, None, Ok, Err, refl, sym, ap, subst, ◌∙◌, append_assoc, arith}
+use Rattle.std.specs.Prelude.{nat_le, T}
 use Rattle.std.specs.Int.{w32, to_be_bytes}
 use Rattle.std.specs.List.{flat_map}
-use Rattle.std.specs.Ordering.{is_lt, is_eq, ordering_reverse, eq_by_cmp}
+use Rattle.std.specs.Ordering.{is_lt, is_eq, ordering_reverse}
 use Rattle.std.specs.declared.cmp.Ordering.{Ordering}
 use Rattle.std.specs.declared.cmp.Ordering.TheVariants.{Less, Equal, Greater}
 use Rattle.std.specs.FinMap.Entries.{put, find, is_sorted, below_all, by_order}
-use Rattle.std.proofs.lemmas.Bool.{ltb-false, le-ltb, le-leb, leb-true}
+use Rattle.std.proofs.lemmas.Bool.{ltb-false, le-leb, leb-true}
 use Rattle.std.proofs.lemmas.List.{append-nil}
-use Rattle.finite_map.specs.FiniteMap.{FiniteMap, empty, get, insert, len, entries-insert, same_entries_map}
+use Rattle.finite_map.specs.FiniteMap.{empty, get, insert, len, entries-insert, same_entries_map}
 use Rattle.key_sets.specs.declared.kind.Kind.{Kind}
 use Rattle.key_sets.specs.declared.parts.Parts.{Parts}
 use Rattle.key_sets.specs.Kinds.{raised}
 use Rattle.key_sets.specs.Parts.{parts_cmp}
 use Rattle.key_sets.specs.Keys.{Keys, with_key, with_keys}
 use Rattle.key_sets.proofs.PartsLemmas.{parts_total}
-use Rattle.write_set.specs.declared.fault.WsFault.{WsFault}
 use Rattle.write_set.specs.Rules.{keys_fit}
 use Rattle.write_set.specs.Spelling.{key_text, keys_text}
 use Rattle.write_set.specs.Place.{Place}
-use Rattle.write_set.specs.Reading.{◌>>=◌, Read, is_above, some_keys_at, with_read, keys_at}
+use Rattle.write_set.specs.Reading.{Read, some_keys_at, with_read, keys_at}
 use Rattle.write_set.proofs.RulesOf.{both, and}
 use Rattle.write_set.proofs.Bounds.{above}
 use Rattle.write_set.proofs.Fields.{IsBytes, read_ok, passed, ok_is, place, Took, took_then, number_takes, number_again, wide32}

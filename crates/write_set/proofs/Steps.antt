@@ -1,8 +1,8 @@
 -- One step of reading, and how a fault passes on.
-use Rattle.std.proofs.Common.{◌≡◌, ℕ, Result, Ok, Err, refl, sym, ap, ◌∙◌}
+use Rattle.std.proofs.Common.{◌≡◌, Result, Err}
 use Rattle.write_set.specs.declared.fault.WsFault.{WsFault}
 use Rattle.write_set.specs.declared.fault.WsFault.TheVariants.{Short, BadVersion, BadFlags, TooMany, BadKey, BadKind, NotCanonical, BadChange, Trailing, Uncovered, NoMemory}
-use Rattle.write_set.specs.Reading.{◌>>=◌, Fails}
+use Rattle.write_set.specs.Reading.{Fails}
 
 -- the fault of one reading is that of another, where the other fails as it does
 pub fails_along : {X Y : Type 0} (fault : WsFault) (one : Result X WsFault) (other : Result Y WsFault)

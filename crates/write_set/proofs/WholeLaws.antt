@@ -1,7 +1,7 @@
 -- Whole write sets: what is read is spelled so, and what is spelled is read again.
-use Rattle.std.proofs.Common.{◌≡◌, ℕ, zero, suc, ◌+◌, ◌^◌, ◌<◌, ◌≤◌, Bool, true, false, List, [], ◌∷◌, ◌++◌, length, Option, Some, None, Result, Ok, Err, refl, sym, ap, subst, ◌∙◌, append_assoc, arith}
-use Rattle.std.specs.Prelude.{◌==◌, ◌||◌, ◌&&◌, not, nat_lt, nat_le, is_none, IfOk}
-use Rattle.std.specs.Int.{w8, w32, w64, to_be_bytes}
+use Rattle.std.proofs.Common.{◌≡◌, ℕ, ◌+◌, ◌^◌, ◌<◌, ◌≤◌, Bool, true, false, List, [], ◌∷◌, ◌++◌, length, Option, Some, None, Result, Ok, Err, refl, sym, ap, subst, ◌∙◌, append_assoc, arith}
+use Rattle.std.specs.Prelude.{◌==◌, ◌||◌, ◌&&◌, not, nat_le, is_none, IfOk}
+use Rattle.std.specs.Int.{w32, w64, to_be_bytes}
 use Rattle.std.specs.List.{list_all, flat_map, AllByRecursion}
 use Rattle.std.proofs.lemmas.Bool.{ltb-false, leb-true, le-leb, eqb-true}
 use Rattle.std.proofs.lemmas.List.{append-nil, nil_from_length}
@@ -11,15 +11,15 @@ use Rattle.row_model.specs.declared.ops.Op.{Op}
 use Rattle.write_set.specs.declared.fault.WsFault.{WsFault}
 use Rattle.write_set.specs.declared.write_set.Header.{Header}
 use Rattle.write_set.specs.declared.write_set.WriteSet.{WriteSet}
-use Rattle.write_set.specs.Rules.{flags_fit, rollback_is_bare, keys_fit, op_fits, OpInRange, uncovered_from, obeys, InRange}
-use Rattle.write_set.specs.Spelling.{keys_text, op_text, ops_text, sender_text, step_text, spelling}
+use Rattle.write_set.specs.Rules.{flags_fit, op_fits, OpInRange, uncovered_from, obeys, InRange}
+use Rattle.write_set.specs.Spelling.{keys_text, op_text, ops_text, spelling}
 use Rattle.write_set.specs.Laws.{IsSpelled}
 use Rattle.write_set.specs.Place.{Place, place_in}
-use Rattle.write_set.specs.Reading.{◌>>=◌, Read, Gives, number_at, many_at, op_at, keys_at, ops_at, header_at, covered, write_set_of, finished, read}
+use Rattle.write_set.specs.Reading.{◌>>=◌, Gives, op_at, ops_at, header_at, covered, write_set_of, finished, read}
 use Rattle.write_set.proofs.RulesOf.{both, and, Rules, rules_of, obeyed}
 use Rattle.write_set.proofs.Bounds.{is_not, above}
-use Rattle.write_set.proofs.Fields.{IsBytes, read_ok, bind_ok, passed, ok_is, place, Took, took_then, number_takes, number_again, wide32, wide64, byte_takes, byte_again}
-use Rattle.write_set.proofs.SetLaws.{TakesAllKeys, keys_take, keys_again}
+use Rattle.write_set.proofs.Fields.{IsBytes, read_ok, passed, ok_is, place, Took, took_then, number_takes, number_again, wide32, wide64, byte_takes, byte_again}
+use Rattle.write_set.proofs.SetLaws.{keys_take, keys_again}
 use Rattle.write_set.proofs.OpLaws.{OpFits, many_take, many_again, op_field}
 
 -- ---- the changes

@@ -1,4 +1,6 @@
 use super::*;
+use key_sets::{KeySet, Kind, Parts};
+use row_model::{Op, OpList, RowId};
 use std::alloc::Global;
 use std::test::Fail;
 use wsrep_base::{ByteList, NoMemory};
@@ -76,10 +78,10 @@ fn put(bytes: &mut [u8; 68], (at, byte): (usize, u8)) {
     }
 }
 
-// Bytes by their parts.
-type Parts = [&'static [u8]; 7];
+// Bytes by their pieces.
+type Pieces = [&'static [u8]; 7];
 
-fn joined(alloc: Global, parts: &Parts) -> Result<ByteList, NoMemory> {
+fn joined(alloc: Global, parts: &Pieces) -> Result<ByteList, NoMemory> {
     let mut bytes = ByteList::new(alloc);
     for part in parts {
         bytes.extend(part)?;
@@ -272,5 +274,41 @@ fn other_spellings(rt: HostRuntime) -> Result<(), Fail> {
             "{parts:?}"
         );
     }
+    Ok(())
+}
+
+// 4,096 keys and 8,192 changes are as many as may be.
+#[test]
+fn the_largest_write_set_both_ways(rt: HostRuntime) -> Result<(), Fail> {
+    let mut keys = KeySet::new(rt.alloc())?;
+    let mut ops = OpList::new(rt.alloc());
+    for row in 0..4_096u16 {
+        let [high, low] = row.to_be_bytes();
+        let mut name = [0; 16];
+        name[0] = b'a'.wrapping_add(high);
+        name[1] = b'a'.wrapping_add(low / 16);
+        name[2] = b'a'.wrapping_add(low % 16);
+        let id = RowId {
+            table: *b"acct\0\0\0\0\0\0\0\0\0\0\0\0",
+            row: name,
+        };
+        let parts = Parts {
+            table: id.table,
+            row: Some(id.row),
+        };
+        keys.add(&parts, Kind::Exclusive)?;
+        ops.push(Op::Delete(id))?;
+        ops.push(Op::Delete(id))?;
+    }
+    let largest = WriteSet {
+        keys,
+        ops,
+        ..decode(rt.alloc(), &BYTES)?
+    };
+    assert!(rt; is_valid(&largest));
+    let bytes = encode(rt.alloc(), &largest)?;
+    let read = decode(rt.alloc(), &bytes)?;
+    assert_eq!(rt; (read.keys.len(), read.ops.len()), (4_096, 8_192));
+    assert_eq!(rt; encode(rt.alloc(), &read)?.as_slice(), bytes.as_slice());
     Ok(())
 }

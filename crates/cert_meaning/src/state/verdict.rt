@@ -4,8 +4,9 @@ ghost use Rattle.cert_meaning.specs.Verdict.{is_start, trx_of, is_out_of_place, 
 
 use super::FoldState;
 use crate::fragments::{last_seen_of, whole_keys};
+use crate::search;
 use crate::sets::{is_rollback, is_start, trx_of};
-use key_sets::{KeySet, conflicts};
+use key_sets::{KeySet, Relation};
 use write_set::WriteSet;
 use wsrep_base::{NoMemory, Verdict};
 
@@ -89,14 +90,6 @@ impl FoldState {
     fn conflict(&self, last_seen: u64, keys: &KeySet) -> Option<u64>
         ensures { result ≡ conflict_of self.now last_seen keys.now }
     {
-        for commit in self.commits.iter().rev() {
-            if commit.number <= last_seen {
-                return None;
-            }
-            if conflicts(&commit.keys, keys) {
-                return Some(commit.number);
-            }
-        }
-        None
+        search::greatest_related(Relation::Conflict, self.commits.as_slice(), last_seen, keys)
     }
 }

@@ -24,8 +24,9 @@ pub fn touches(a: &KeySet, b: &KeySet) -> bool
     meet(Relation::Touch, a, b)
 }
 
-// It goes over the smaller set for the keys that both may have.
-fn meet(relation: Relation, a: &KeySet, b: &KeySet) -> bool
+/// Whether at some parts a kind of the one set and a kind of the other are so related. It goes over
+/// the smaller set for the keys that both may have.
+pub fn meet(relation: Relation, a: &KeySet, b: &KeySet) -> bool
     ensures { result ≡ keys.meet (probes.kind_test relation) a.now b.now }
 {
     if a.len() <= b.len() {

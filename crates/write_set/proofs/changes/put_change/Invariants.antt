@@ -1,5 +1,5 @@
-use Rattle.std.proofs.Common.{◌≡◌, ◌++◌, ◌∷◌, ◌+◌, drop}
-use Rattle.write_set.specs.Spelling.{named, columns_text, change_text}
+use Rattle.std.proofs.Common.{◌≡◌, ◌++◌, ◌+◌, drop}
+use Rattle.write_set.specs.Spelling.{columns_text, change_text}
 use Rattle.write_set.proofs.changes.put_change.Given as goal
 
 abbrev pub invariant-loop-cell : goal.invariant-loop-cell

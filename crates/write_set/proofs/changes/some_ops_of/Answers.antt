@@ -1,4 +1,3 @@
-use Rattle.std.proofs.Common.{◌++◌, ◌∷◌, []}
 use Rattle.write_set.specs.Reading.{many_at, op_at}
 use Rattle.write_set.proofs.Loops.{goes_on, ends, is_done}
 use Rattle.write_set.proofs.changes.some_ops_of.Goals as goal

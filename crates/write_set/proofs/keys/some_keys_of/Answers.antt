@@ -9,7 +9,7 @@ use Rattle.write_set.proofs.keys.some_keys_of.Goals as goal
 pub loop-init : goal.loop-init
 loop-init c =
     let all : c.args.count - 0 ≡ c.args.count = omega arith in
-    rw c.in_ok-keys.ensures (record {
+    rw c.in_ok-keys.ensures.empty (record {
       few = rw (len-empty parts_cmp Kind) (omega arith);
       so_far = ap (λ n. with_read empty (some_keys_at n None c.args.cursor)) all;
     })

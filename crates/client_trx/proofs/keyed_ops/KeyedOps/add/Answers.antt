@@ -1,7 +1,6 @@
 -- The key and the change are added together.
-use Rattle.std.proofs.Common.{◌≡◌, ap, ◌∙◌}
-use Rattle.key_sets.specs.Keys.{with_key}
-use Rattle.client_trx.specs.KeyedOps.{Keyed, with_op, with_change, is_over}
+use Rattle.std.proofs.Common.{ap, ◌∙◌}
+use Rattle.client_trx.specs.KeyedOps.{Keyed, with_change, is_over}
 use Rattle.client_trx.proofs.FitLemmas.{more_fit}
 use Rattle.client_trx.proofs.keyed_ops.KeyedOps.add.Goals as goal
 

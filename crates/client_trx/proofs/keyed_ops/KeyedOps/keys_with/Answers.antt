@@ -1,5 +1,5 @@
 -- The set has the parts already, or they are new.
-use Rattle.std.proofs.Common.{◌≡◌, ◌+◌, Bool, true, false, cond, is_some, sym, ap, ◌∙◌}
+use Rattle.std.proofs.Common.{◌≡◌, ◌+◌, true, false, cond, is_some, sym, ap, ◌∙◌}
 use Rattle.finite_map.specs.FiniteMap.{len, get}
 use Rattle.key_sets.proofs.WithKey.{len-with_key}
 use Rattle.client_trx.specs.KeyedOps.{Keyed}

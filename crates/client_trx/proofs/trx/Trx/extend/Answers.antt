@@ -1,5 +1,5 @@
 -- What came since the last fragment stays a part of the whole.
-use Rattle.std.proofs.Common.{◌≡◌, ap, ◌∙◌}
+use Rattle.std.proofs.Common.{ap, ◌∙◌}
 use Rattle.client_trx.specs.Live.{Live, added, is_too_large}
 use Rattle.client_trx.proofs.PartLemmas.{room_in_part, part_grown}
 use Rattle.client_trx.proofs.trx.Trx.extend.Goals as goal

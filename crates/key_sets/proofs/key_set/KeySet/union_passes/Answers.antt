@@ -1,5 +1,5 @@
 -- Sets that are small together have no union that is too large.
-use Rattle.std.proofs.Common.{arith, sym}
+use Rattle.std.proofs.Common.{arith}
 use borrow.Author.Tests.{ltb-true}
 use Rattle.key_sets.proofs.UnionLemmas.{len-union-sum}
 use Rattle.key_sets.proofs.key_set.KeySet.union_passes.Goals as goal
