@@ -1,6 +1,7 @@
 -- All keys of a transaction, joined one fragment after another.
 use Rattle.std.proofs.Common.{◌≡◌, ℕ, suc, ◌≤◌, ◌<◌, Bool, true, false, List, [], ◌∷◌, ◌++◌, None, Some, refl, sym, ap, subst, ◌∙◌, arith, append_assoc}
-use Rattle.std.specs.Prelude.{◌==◌, fold, length, nat_le, cond, not, T}
+use Rattle.std.specs.Prelude.{◌==◌, fold, length, nat_le, nat_lt, cond, not, T}
+use Rattle.std.proofs.lemmas.Bool.{le-ltb}
 use Rattle.std.proofs.lemmas.List.Sums.{fold-append}
 use Rattle.std.proofs.Math.Facts.{leb_yes, yes_leb}
 use Rattle.std.proofs.Math.Dec.{eqb→eq}
@@ -75,3 +76,10 @@ pub whole_keys-none : (fragments : List Fragment) (keys : Keys) → length fragm
 whole_keys-none fragments keys none few =
     ap (λ fs. within (whole_keys fs keys)) (no_fragments fragments none)
     ∙ ap within (whole_keys-alone keys) ∙ within-few keys few
+
+-- where there are no fragments, the keys of one set are not too many
+pub few-alone : (fragments : List Fragment) (keys : Keys) → length fragments == 0 ≡ true → len keys ≤ LIMIT
+    → nat_lt LIMIT (len (whole_keys fragments keys)) ≡ false
+few-alone fragments keys none few =
+    ap (λ fs. nat_lt LIMIT (len (whole_keys fs keys))) (no_fragments fragments none)
+    ∙ ap (λ ks. nat_lt LIMIT (len ks)) (whole_keys-alone keys) ∙ le-ltb LIMIT (len keys) few

@@ -15,7 +15,7 @@ pub use Rattle.cert_meaning.specs.declared.items.Fragment.{Fragment}
 pub record FoldState : Type 0 where
   -- how many events it has seen
   pub number : ℕ
-  -- the least report: nothing below it is compared any more
+  -- the least report: a write set that saw less is stale
   pub floor : ℕ
   -- that of the last view
   pub version : ℕ

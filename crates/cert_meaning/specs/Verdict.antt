@@ -1,5 +1,5 @@
 -- the verdict of a write set over a state: the first line that holds
-use Rattle.std.specs.Prelude.{ℕ, ◌==◌, Bool, not, ◌&&◌, ◌||◌, nat_le, nat_lt, List, length, map, filter, Option, Some, None, if◌then◌else◌}
+use Rattle.std.specs.Prelude.{ℕ, ◌==◌, Bool, not, ◌||◌, nat_le, nat_lt, List, length, map, filter, Option, Some, None, if◌then◌else◌}
 use Rattle.finite_map.specs.FiniteMap.{len}
 use Rattle.wsrep_base.specs.declared.ids.TrxId.{TrxId}
 use Rattle.wsrep_base.specs.declared.verdict.Verdict.{Verdict}
@@ -7,8 +7,8 @@ use Rattle.wsrep_base.specs.declared.verdict.Verdict.TheVariants.{Pass, Stranger
 use Rattle.wsrep_base.specs.Trx.{greatest}
 use Rattle.key_sets.specs.Keys.{Keys, LIMIT, conflicts, touches}
 use Rattle.write_set.specs.declared.write_set.WriteSet.{WriteSet}
-use Rattle.cert_meaning.specs.declared.items.CommitItem.{CommitItem}
 use Rattle.cert_meaning.specs.declared.items.Fragment.{Fragment}
+use Rattle.cert_meaning.specs.Search.{greatest_related}
 use Rattle.cert_meaning.specs.State.{FoldState, is_member, serial_of, is_open, fragments_of, other_fragments, last_seen_of, whole_keys}
 
 -- it is the first of its transaction
@@ -40,18 +40,9 @@ is_broken s w =
     || nat_lt w.last_seen (last_seen_of (fragments_of s (trx_of w)))
     || nat_lt LIMIT (len (whole_keys (fragments_of s (trx_of w)) w.keys))
 
--- a commit above what was last seen whose keys conflict
-abbrev pub is_against : ℕ → Keys → CommitItem → Bool
-is_against last_seen keys commit = nat_lt last_seen commit.number && conflicts commit.keys keys
-
--- the greatest number of such a commit
-abbrev pub greatest_against : List CommitItem → ℕ → Keys → Option ℕ
-greatest_against commits last_seen keys =
-    greatest (map (λ (commit : CommitItem). commit.number) (filter (is_against last_seen keys) commits))
-
--- the greatest number of such a passed commit
+-- the greatest number of a passed commit above what was last seen whose keys conflict
 unfoldable pub conflict_of : FoldState → ℕ → Keys → Option ℕ
-conflict_of s last_seen keys = greatest_against s.commits last_seen keys
+conflict_of s last_seen keys = greatest_related conflicts s.commits last_seen keys
 
 -- the greatest number of a fragment whose keys touch
 abbrev pub greatest_touching : List Fragment → Keys → Option ℕ

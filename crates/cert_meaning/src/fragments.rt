@@ -1,6 +1,6 @@
 //! The passed fragments of one transaction.
 
-ghost use Rattle.std.specs.Prelude.{◌≡◌, ◌<◌, true, false, Some, IfOk};
+ghost use Rattle.std.specs.Prelude.{◌≡◌, ◌<◌, nat_lt, true, false, Some, IfOk};
 ghost use Rattle.finite_map.specs.FiniteMap.{len};
 ghost use Rattle.key_sets.specs.Keys.{LIMIT, union};
 ghost use Rattle.cert_meaning.specs.Extremes.{greater};
@@ -46,6 +46,22 @@ pub(crate) fn whole_keys(
         return Ok(None);
     }
     Ok(Some(whole))
+}
+
+/// Whether a transaction with one more write set has more keys than a set may have.
+pub(crate) fn is_too_large(
+    alloc: Global,
+    fragments: &[Fragment],
+    keys: &KeySet,
+) -> Result<bool, NoMemory>
+    ensures { IfOk result (λ large. large ≡ nat_lt LIMIT (len (whole_keys fragments.now keys.now))) }
+{
+    // The keys of one write set are few as in every set: nothing is joined.
+    if fragments.is_empty() && keys.len() <= KeySet::LIMIT {
+        return Ok(false);
+    }
+    let whole = whole_keys(alloc, fragments, keys)?;
+    Ok(whole.is_none())
 }
 
 // Adds the keys of the other set. False, with some of them added, where the union passes what a

@@ -6,14 +6,8 @@ ghost use Rattle.cert_meaning.specs.Fold.{judged_as, passed};
 
 use bytes::Bytes;
 use std::alloc::{AllocError, Global};
-use write_set::{WriteSet, WsFault, decode};
+use write_set::{END, ROLLBACK, START, WriteSet, WsFault, decode};
 use wsrep_base::{Judged, NoMemory, TrxId, Verdict};
-
-const START: u8 = 1;
-
-const END: u8 = 2;
-
-const ROLLBACK: u8 = 4;
 
 /// The write set that the bytes spell. None where they spell none.
 pub(crate) fn decoded(alloc: Global, body: &Bytes) -> Result<Option<WriteSet>, NoMemory>

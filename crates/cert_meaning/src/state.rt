@@ -25,6 +25,7 @@ pub struct FoldState {
     floor: u64,
     version: u32,
     members: Members,
+    // No call reads them yet; a snapshot for a node that joins will.
     rows: RowTable,
     commits: Vec<CommitItem>,
     open_trx: OpenTable,

@@ -9,10 +9,8 @@ use key_sets::{KeySet, Kind, Parts};
 use row_model::{Op, OpList};
 use std::alloc::Global;
 use std::marker::Model;
+use write_set::MOST_OPS;
 use wsrep_base::NoMemory;
-
-/// The most changes of a transaction.
-const MOST_OPS: usize = 8192;
 
 /// Changes and keys of which each change is covered by a key.
 #[derive(Drop)]

@@ -10,14 +10,8 @@ use key_sets::{KeySet, Kind, Parts};
 use row_model::{Op, OpList, Reply};
 use std::alloc::Global;
 use std::marker::Model;
-use write_set::WriteSet;
+use write_set::{END, START, WriteSet};
 use wsrep_base::{NoMemory, TrxId, Verdict};
-
-/// The flag of a transaction's first write set.
-const START: u8 = 1;
-
-/// The flag of a commit.
-const END: u8 = 2;
 
 /// A live transaction.
 #[derive(Drop)]
@@ -61,6 +55,7 @@ impl Trx {
         })
     }
 
+    /// Its name: its member, and its begin number.
     pub fn id(&self) -> TrxId
         ensures { result ≡ self.now.trx }
     {
@@ -88,6 +83,7 @@ impl Trx {
         self.sent
     }
 
+    /// How far it is.
     pub fn status(&self) -> Status
         ensures { result ≡ self.now.status }
     {

@@ -197,7 +197,7 @@ next_seat id seats now seat k is start seated so_far =
       λ order. all_append (IsSeated order) seats (seat ∷ []) (so_far.1 order) (seated order, tt),
     ))
 
-length-up_to : (k : ℕ) → length (up_to k) ≡ k
+pub length-up_to : (k : ℕ) → length (up_to k) ≡ k
 length-up_to zero = refl
 length-up_to (suc k) = length-append (up_to k) (suc k ∷ []) ∙ ap (λ n. n + 1) (length-up_to k) ∙ (let e : k + 1 ≡ suc k = omega arith in e)
 

@@ -1,4 +1,5 @@
 pub mod Acts
+pub mod Counted
 pub mod Drain
 pub mod Faults
 pub mod Seated

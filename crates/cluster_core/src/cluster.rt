@@ -136,3 +136,6 @@ fn seats_of(alloc: Global, id: &StateId, nodes: u8, gcache: u64) -> Result<Vec<S
     }
     Ok(seats)
 }
+
+#[cfg(test)]
+mod tests;

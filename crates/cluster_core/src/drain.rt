@@ -17,7 +17,7 @@ use wsrep_base::NoMemory;
 
 /// All that waits is ordered, and then everything is taken, certified and committed. A fault on
 /// the way leaves what was done.
-pub fn drain<G: Group>(seat: &mut Seat, group: &mut G) -> Result<Answer, StepFault>
+pub(crate) fn drain<G: Group>(seat: &mut Seat, group: &mut G) -> Result<Answer, StepFault>
     requires kept { IsKept (G.order group.old) seat.old }
     requires events { length (G.order group.old) + node_orders act.Drain (plain_of seat.old.node) ≤ 500_000 }
     ensures ok { IfOk result (Acted act.Drain (G.order group.old) (G.order group.new) seat.old seat.new) }

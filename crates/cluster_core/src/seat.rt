@@ -10,7 +10,7 @@ use wsrep_base::{NoMemory, StateId};
 
 /// A node of a cluster, and what the work of its started units gives.
 #[derive(Drop)]
-pub struct Seat {
+pub(crate) struct Seat {
     pub(crate) node: Node,
     // By the numbers of the units; an entry exactly where a unit is started and not finished.
     pub(crate) done: HashMap<u64, Done>,
@@ -29,7 +29,12 @@ impl Seat {
     ghost use Rattle.cluster_core.specs.Seated.{IsSeated, IsSomewhere, SeatDoes, SeatTakes, SeatUnchanged};
 
     /// A node at its start, with no unit.
-    pub fn new(alloc: Global, id: &StateId, member: u32, gcache: u64) -> Result<Seat, NoMemory>
+    pub(crate) fn new(
+        alloc: Global,
+        id: &StateId,
+        member: u32,
+        gcache: u64,
+    ) -> Result<Seat, NoMemory>
         requires id { id.now ≢ nil_id }
         requires ring { gcache ≤ 16_777_216 }
         ensures start { IfOk result (λ seat. plain_of seat.node ≡ start_node id.now member) }
@@ -42,7 +47,7 @@ impl Seat {
     }
 
     /// What a session's call is answered.
-    pub fn client(&mut self, session: u8, call: &Call) -> Result<Answer, NoMemory>
+    pub(crate) fn client(&mut self, session: u8, call: &Call) -> Result<Answer, NoMemory>
         requires seated { IsSomewhere self.old }
         requires session { (1 ≤ session) × (session ≤ 32) }
         requires names { IsTrue (call_fits call.now) }
@@ -55,7 +60,7 @@ impl Seat {
     }
 
     /// The next event of the order is taken.
-    pub fn take(&mut self, event: &Event) -> Result<Answer, NoMemory>
+    pub(crate) fn take(&mut self, event: &Event) -> Result<Answer, NoMemory>
         requires seated { IsSomewhere self.old }
         requires number { self.old.node.at.taken < 2 ^ 63 }
         requires members { HasFewMembers event.now }
@@ -67,7 +72,7 @@ impl Seat {
     }
 
     /// The next event that was taken is certified.
-    pub fn certify(&mut self) -> Result<Answer, NoMemory>
+    pub(crate) fn certify(&mut self) -> Result<Answer, NoMemory>
         requires seated { IsSomewhere self.old }
         ensures ok { IfOk result (SeatDoes (λ order n. node_step order n act.Certify) self.old self.new) }
         ensures err { OnErr result (SeatUnchanged self.old self.new) }
@@ -77,7 +82,7 @@ impl Seat {
     }
 
     /// The unit of the commit with this number is started, and its work done.
-    pub fn start(&mut self, number: u64) -> Result<Answer, NoMemory>
+    pub(crate) fn start(&mut self, number: u64) -> Result<Answer, NoMemory>
         requires seated { IsSomewhere self.old }
         ensures ok { IfOk result (SeatDoes (λ order n. node_step order n (act.Start number)) self.old self.new) }
         ensures err { OnErr result (SeatUnchanged self.old self.new) }
@@ -88,7 +93,7 @@ impl Seat {
     }
 
     /// The work of the unit with this number is given to the node.
-    pub fn finish(&mut self, number: u64) -> Answer
+    pub(crate) fn finish(&mut self, number: u64) -> Answer
         requires seated { IsSomewhere self.old }
         ensures { SeatDoes (λ order n. node_step order n (act.Finish number)) self.old self.new result }
     {
@@ -97,12 +102,12 @@ impl Seat {
         };
         match self.node.finish(done) {
             Ok(number) => Answer::Finished(number),
-            Err(_) => Answer::NoUnit(number),
+            Err(_) => unreachable!(),
         }
     }
 
     /// The next number that was certified is committed.
-    pub fn advance(&mut self) -> Answer
+    pub(crate) fn advance(&mut self) -> Answer
         requires seated { IsSomewhere self.old }
         ensures { SeatDoes (λ order n. node_step order n act.Advance) self.old self.new result }
     {
@@ -151,7 +156,10 @@ fn keep(done: &mut HashMap<u64, Done>, number: u64, started: Started) -> Answer
 {
     match started {
         Started::Unit(task, victims) => {
-            let _ = done.insert(number, task.compute());
+            match done.insert(number, task.compute()) {
+                Ok(_) => {}
+                Err(_) => unreachable!(),
+            }
             Answer::Started(number, victims)
         }
         Started::NotYet(earlier) => Answer::NotYet(earlier),

@@ -15,7 +15,7 @@ use group_order::Group;
 use order_event::{Act, Answer};
 
 /// What a step of the node at this place is answered.
-pub fn step_at<G: Group>(
+pub(crate) fn step_at<G: Group>(
     seats: &mut Vec<Seat>,
     at: usize,
     group: &mut G,
@@ -37,7 +37,11 @@ pub fn step_at<G: Group>(
 }
 
 /// What a step of the node is answered.
-pub fn step_on<G: Group>(seat: &mut Seat, group: &mut G, act: &Act) -> Result<Answer, StepFault>
+pub(crate) fn step_on<G: Group>(
+    seat: &mut Seat,
+    group: &mut G,
+    act: &Act,
+) -> Result<Answer, StepFault>
     requires kept { IsKept (G.order group.old) seat.old }
     requires act { has_session act.now × IsTrue (act_fits act.now) }
     requires events { length (G.order group.old) + node_orders act.now (plain_of seat.old.node) ≤ 500_000 }
@@ -64,7 +68,7 @@ pub fn step_on<G: Group>(seat: &mut Seat, group: &mut G, act: &Act) -> Result<An
 }
 
 /// The oldest message that waits takes the next number of the order.
-pub fn order_first<G: Group>(seat: &mut Seat, group: &mut G) -> Result<Answer, StepFault>
+pub(crate) fn order_first<G: Group>(seat: &mut Seat, group: &mut G) -> Result<Answer, StepFault>
     requires kept { IsKept (G.order group.old) seat.old }
     requires events { length (G.order group.old) + node_orders act.Order (plain_of seat.old.node) ≤ 500_000 }
     ensures ok { IfOk result (Acted act.Order (G.order group.old) (G.order group.new) seat.old seat.new) }
@@ -81,7 +85,7 @@ pub fn order_first<G: Group>(seat: &mut Seat, group: &mut G) -> Result<Answer, S
 }
 
 /// The next event of the order is taken, where there is one.
-pub fn take_next<G: Group>(seat: &mut Seat, group: &mut G) -> Result<Answer, StepFault>
+pub(crate) fn take_next<G: Group>(seat: &mut Seat, group: &mut G) -> Result<Answer, StepFault>
     requires kept { IsKept (G.order group.old) seat.old }
     requires events { length (G.order group.old) ≤ 500_000 }
     ensures ok { IfOk result (Acted act.Take (G.order group.old) (G.order group.new) seat.old seat.new) }

@@ -63,10 +63,6 @@ module _ {K X : Type 0} {R : K → K → Ordering} where
   abbrev pub values : FiniteMap R X → List X
   values m = map (λ e. e.1) m.entries
 
-  -- of entries whose keys strictly rise, and else the empty map
-  unfoldable pub from_sorted : List (K × X) → FiniteMap R X
-  from_sorted es = checked es _ refl empty
-
   -- of any entries; at a key that stands twice the first entry counts
   abbrev pub from_entries : List (K × X) → FiniteMap R X
   from_entries [] = empty
@@ -74,7 +70,7 @@ module _ {K X : Type 0} {R : K → K → Ordering} where
 
 -- what a worked example unfolds
 unfoldable pub computing_maps : Unit {0}
-unfolding empty checked get insert retain_keys remove len from_sorted
+unfolding empty checked get insert retain_keys remove len
 computing_maps = tt
 
 module _ {K X : Type 0} (R : K → K → Ordering) where
@@ -109,15 +105,6 @@ module _ {K X : Type 0} {R : K → K → Ordering} where
       → get (retain_keys m p) q ≡ cond (p q) (get m q) None
   unfolding get retain_keys
   get-retain_keys m p q alike = find-where_key R p q alike m.entries
-
-module _ {K X : Type 0} (R : K → K → Ordering) where
-  pub entries-from_sorted : (es : List (K × X)) → T (is_sorted R es) → (from_sorted {R = R} es).entries ≡ es
-  unfolding from_sorted
-  entries-from_sorted es h = entries-checked es _ refl empty h
-
-  pub get-from_sorted : (es : List (K × X)) (q : K) → T (is_sorted R es) → get (from_sorted {R = R} es) q ≡ find R q es
-  unfolding get
-  get-from_sorted es q h = ap (find R q) (entries-from_sorted es h)
 
 module _ {K X : Type 0} {R : K → K → Ordering} (o : IsTotalOrder R) where
   pub entries-insert : (m : FiniteMap R X) (k : K) (v : X) → (insert m k v).entries ≡ put R k v m.entries

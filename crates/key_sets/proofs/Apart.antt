@@ -11,10 +11,10 @@ use Rattle.std.proofs.lemmas.Map.Keys.{IsDistinct-head, IsDistinct-tail}
 use Rattle.finite_map.specs.FiniteMap.{get, get-entries}
 use Rattle.key_sets.specs.declared.kind.Kind.{Kind}
 use Rattle.key_sets.specs.declared.parts.Parts.{Parts}
-use Rattle.key_sets.specs.Parts.{parts_cmp, same_parts}
+use Rattle.key_sets.specs.Parts.{parts_cmp, same_parts, parts_eq}
 use Rattle.key_sets.specs.Keys.{Keys, keys_from}
 use Rattle.key_sets.proofs.ListLemmas.{In, some_in, any_of, same_answer}
-use Rattle.key_sets.proofs.PartsLemmas.{parts_eq, same_parts-exact, same_parts-itself}
+use Rattle.key_sets.proofs.PartsLemmas.{same_parts-exact, same_parts-itself}
 use Rattle.key_sets.proofs.TableLemmas.{get-keys_from, lookup-find, none_here}
 
 -- no parts stand twice

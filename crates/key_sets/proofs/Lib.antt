@@ -1,6 +1,5 @@
 pub mod PartsLemmas
 pub mod TableLemmas
-pub mod SortedLemmas
 pub mod WithKey
 pub mod ListLemmas
 pub mod Apart

@@ -1,5 +1,5 @@
 -- Parts are in a total order, and parts that tie are equal.
-use Rattle.std.proofs.Common.{◌≡◌, ℕ, Bool, true, ◌&&◌, List, Option, None, Some, refl, sym, ap, ◌∙◌}
+use Rattle.std.proofs.Common.{◌≡◌, ℕ, true, ◌&&◌, List, Option, None, Some, refl, ap, ◌∙◌}
 use Rattle.std.specs.Prelude.{nat_eq}
 use Rattle.std.specs.Option.{option_cmp, option_eq}
 use Rattle.std.specs.Ordering.{nat_cmp, ordering_then, is_eq}
@@ -11,7 +11,7 @@ use Rattle.std.proofs.lemmas.Cmp.{then_total, on_total, nat_list_cmp_total}
 use Rattle.std.proofs.lemmas.Map.Lookups.{exact_bytes}
 use Rattle.std.specs.FinMap.{IsAntisymmetric}
 use Rattle.key_sets.specs.declared.parts.Parts.{Parts}
-use Rattle.key_sets.specs.Parts.{parts_cmp, same_parts}
+use Rattle.key_sets.specs.Parts.{parts_cmp, same_parts, parts_eq}
 
 pub parts_total : IsTotalOrder parts_cmp
 parts_total =
@@ -55,10 +55,6 @@ same_parts-exact p q e = parts_exact p q (is_equal (parts_cmp p q) e)
 pub same_parts-itself : (p : Parts) → same_parts p p ≡ true
 same_parts-itself p = parts_equivalence.refl p
 
--- what `==` of parts computes
-abbrev pub parts_eq : Parts → Parts → Bool
-parts_eq p q = pointwise nat_eq p.table q.table && option_eq (pointwise nat_eq) p.row q.row
-
 both_tie : (o p : Ordering) → is_eq o && is_eq p ≡ is_eq (ordering_then o p)
 both_tie Less p = refl
 both_tie Equal p = refl
@@ -70,16 +66,8 @@ rows_tie None (Some y) = refl
 rows_tie (Some x) None = refl
 rows_tie (Some x) (Some y) = texts_ties x y
 
--- it answers as the order does
+-- what `==` of parts computes answers as the order does
 pub parts_eq-same : (p q : Parts) → parts_eq p q ≡ same_parts p q
 parts_eq-same p q =
     (λ i. texts_ties p.table q.table i && rows_tie p.row q.row i)
     ∙ both_tie (slice_cmp nat_cmp p.table q.table) (option_cmp (slice_cmp nat_cmp) p.row q.row)
-
-pub parts_eq_equivalence : IsEquivalence parts_eq
-parts_eq_equivalence = record {
-  refl = λ p. parts_eq-same p p ∙ parts_equivalence.refl p;
-  symm = λ p q. parts_eq-same p q ∙ parts_equivalence.symm p q ∙ sym (parts_eq-same q p);
-  congr = λ p q r t.
-      parts_eq-same p r ∙ parts_equivalence.congr p q r (sym (parts_eq-same p q) ∙ t) ∙ sym (parts_eq-same q r);
-}

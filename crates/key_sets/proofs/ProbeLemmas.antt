@@ -1,6 +1,6 @@
 -- The comparison by look-ups answers as the comparison of all pairs does.
 use Rattle.std.proofs.Common.{◌≡◌, ℕ, Bool, true, false, ◌&&◌, ◌⊎◌, inl, inr, List, Option, None, Some, refl, sym, ap, ◌∙◌}
-use Rattle.std.specs.Prelude.{is_some}
+use Rattle.std.specs.Prelude.{is_some, is_none}
 use Rattle.finite_map.specs.FiniteMap.{get}
 use Rattle.key_sets.specs.declared.kind.Kind.{Kind}
 use Rattle.key_sets.specs.declared.kind.Kind.TheVariants.{Shared}
@@ -10,7 +10,7 @@ use Rattle.key_sets.specs.declared.relation.Relation.TheVariants.{Conflict, Touc
 use Rattle.key_sets.specs.Parts.{table_of}
 use Rattle.key_sets.specs.Keys.{Keys, meet}
 use Rattle.key_sets.specs.Meeting.{Has, HasRow, Meets}
-use Rattle.key_sets.specs.Probes.{kind_test, passes, keys_meet, table_meets, tables_meet}
+use Rattle.key_sets.specs.Probes.{kind_test, passes, keys_meet, table_meets, tables_meet, has_table}
 use Rattle.key_sets.proofs.ListLemmas.{some_in, any_of, same_answer}
 use Rattle.key_sets.proofs.Apart.{get_from_in, in_from_get}
 use Rattle.key_sets.specs.Laws.{IsSymmetric}
@@ -100,6 +100,14 @@ module _ (test : Kind → Kind → Bool) (symm : IsSymmetric test) (apart : test
   pub last_probe : keys_meet test a b ≡ false → tables_meet test a b ≡ false → tables_meet test b a ≡ meet test a b
   last_probe own left =
       same_answer _ _ (λ h. meet-symm test symm a b ∙ tables_met test b a h) (λ is. found is own left)
+
+-- rows meet the key of a table only where there is one
+pub table_there : (test : Kind → Kind → Bool) (a b : Keys) → tables_meet test a b ≡ true → has_table b ≡ true
+table_there test a b h =
+    let found = some_in (λ (e : Parts × Kind). table_meets test b e.0) a.entries h in
+    let parts = both_are (is_some found.0.0.row) (passes (test Shared) (get b (table_of found.0.0))) found.2 in
+    let there = passes_some (test Shared) (get b (table_of found.0.0)) parts.1 in
+    any_of (λ (e : Parts × Kind). is_none e.0.row) (table_of found.0.0, there.0) b.entries (in_from_get b (table_of found.0.0) there.0 there.1) refl
 
 pub kind_test-symm : (r : Relation) → IsSymmetric (kind_test r)
 kind_test-symm Conflict = kinds_conflict-symm

@@ -1,24 +1,24 @@
 -- The hashed table and the map that it is seen as: its look-ups, its length, and a key that is put in.
-use Rattle.std.proofs.Common.{◌≡◌, ◌+◌, false, cond, List, [], ◌∷◌, length, None, Some, is_some, refl, sym, ap, ◌∙◌, add-one}
+use Rattle.std.proofs.Common.{◌≡◌, ◌+◌, false, cond, List, [], ◌∷◌, length, None, Some, is_some, refl, ap, ◌∙◌, add-one}
 use Rattle.std.specs.List.{IsDistinct, AllByRecursion}
 use Rattle.std.specs.Map.{lookup, keys_of}
 use Rattle.std.specs.FinMap.Entries.{find}
 use Rattle.std.proofs.lemmas.Map.Keys.{IsDistinct-head, IsDistinct-tail}
-use Rattle.finite_map.specs.FiniteMap.{empty, get, insert, len, get-empty, get-insert, get-from_entries, len-empty, len-insert, same_map}
+use Rattle.finite_map.specs.FiniteMap.{empty, get, insert, len, get-empty, len-empty, len-insert}
+use Rattle.finite_map.proofs.Tables as tables
 use Rattle.key_sets.specs.declared.kind.Kind.{Kind}
 use Rattle.key_sets.specs.declared.parts.Parts.{Parts}
-use Rattle.key_sets.specs.Parts.{parts_cmp}
+use Rattle.key_sets.specs.Parts.{parts_cmp, parts_eq}
 use Rattle.key_sets.specs.Keys.{keys_from}
-use Rattle.key_sets.proofs.PartsLemmas.{parts_total, parts_equivalence, parts_exact, parts_eq, parts_eq-same, same_parts-itself}
+use Rattle.key_sets.proofs.PartsLemmas.{parts_total, parts_exact, parts_eq-same, same_parts-itself}
 
 -- a look-up by `==` is one by the order
 pub lookup-find : (q : Parts) (es : List (Parts × Kind)) → lookup (parts_eq q) es ≡ find parts_cmp q es
-lookup-find q [] = refl
-lookup-find q (e ∷ es) = λ i. cond (parts_eq-same q e.0 i) (Some e.1) (lookup-find q es i)
+lookup-find = tables.lookup-find parts_total parts_eq-same
 
 -- the map answers as the table does
 pub get-keys_from : (es : List (Parts × Kind)) (q : Parts) → get (keys_from es) q ≡ lookup (parts_eq q) es
-get-keys_from es q = get-from_entries parts_total es q ∙ sym (lookup-find q es)
+get-keys_from = tables.get-table parts_total parts_eq-same
 
 pub none_here : (p : Parts) (es : List (Parts × Kind)) → AllByRecursion (λ y. parts_eq p y ≡ false) (keys_of es)
     → lookup (parts_eq p) es ≡ None
@@ -39,10 +39,7 @@ len-keys_from (e ∷ es) h =
 pub insert-keys_from : (es fs : List (Parts × Kind)) (k : Parts) (v : Kind)
     → ((q : Parts) → lookup (parts_eq q) fs ≡ cond (parts_eq k q) (Some v) (lookup (parts_eq q) es))
     → keys_from fs ≡ insert (keys_from es) k v
-insert-keys_from es fs k v updates = same_map parts_total parts_exact _ _ (λ q.
-    get-keys_from fs q ∙ updates q
-    ∙ (λ i. cond ((parts_eq-same k q ∙ parts_equivalence.symm k q) i) (Some v) (sym (get-keys_from es q) i))
-    ∙ sym (get-insert parts_total (keys_from es) k v q))
+insert-keys_from = tables.insert-table parts_total parts_eq-same parts_exact
 
 -- an empty table is seen as the empty set, and no other is
 pub empty-keys_from : (es : List (Parts × Kind)) → length es ≡ 0 → keys_from es ≡ empty

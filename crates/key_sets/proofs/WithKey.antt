@@ -5,9 +5,9 @@ use Rattle.finite_map.specs.FiniteMap.{get, insert, len, get-insert, len-insert}
 use Rattle.key_sets.specs.declared.kind.Kind.{Kind}
 use Rattle.key_sets.specs.declared.parts.Parts.{Parts}
 use Rattle.key_sets.specs.Kinds.{raised}
-use Rattle.key_sets.specs.Parts.{same_parts}
+use Rattle.key_sets.specs.Parts.{same_parts, parts_eq}
 use Rattle.key_sets.specs.Keys.{Keys, LIMIT, keys_from, with_key}
-use Rattle.key_sets.proofs.PartsLemmas.{parts_total, parts_eq}
+use Rattle.key_sets.proofs.PartsLemmas.{parts_total}
 use Rattle.key_sets.proofs.TableLemmas.{insert-keys_from}
 
 -- at the parts of the key the set has the raised kind, and elsewhere what it had

@@ -1,5 +1,5 @@
 -- The comparison of two key sets by look-ups, and the two relations of kinds that it is made for.
-use Rattle.std.specs.Prelude.{Bool, false, ◌&&◌, Option, None, Some, is_some}
+use Rattle.std.specs.Prelude.{Bool, false, ◌&&◌, Option, None, Some, is_some, is_none}
 use Rattle.std.specs.List.{list_any}
 use Rattle.finite_map.specs.FiniteMap.{get}
 use Rattle.key_sets.specs.declared.kind.Kind.{Kind}
@@ -32,3 +32,7 @@ table_meets test b p = is_some p.row && passes (test Shared) (get b (table_of p)
 -- some row's key of the one set meets the key of its table in the other
 abbrev pub tables_meet : (Kind → Kind → Bool) → Keys → Keys → Bool
 tables_meet test a b = list_any (λ e. table_meets test b e.0) a.entries
+
+-- some key is that of a table
+abbrev pub has_table : Keys → Bool
+has_table a = list_any (λ e. is_none e.0.row) a.entries

@@ -87,6 +87,7 @@ impl KeySet {
         self.kinds.len()
     }
 
+    /// Whether it has no key.
     pub fn is_empty(&self) -> bool
         ensures { IsTrue result ↔ (self.now ≡ map.empty) }
     {

@@ -41,7 +41,7 @@ use Rattle.node_core.specs.Stands.{Stands, Tables, KeepsChanges, AreWorked, IsWo
 use Rattle.node_core.proofs.Tabling.{tabled_committed, tabled-ended, tabled-put, tabled-kept}
 use Rattle.node_core.proofs.CertifyCalls.{by_bool, two_ways}
 use Rattle.node_core.proofs.UnitRows.{unit_free, unit_length, rows_left}
-use Rattle.node_core.proofs.NamedRows.{put_named}
+use Rattle.node_core.proofs.ImageCalls.{put_named}
 
 -- a transaction without locks ends, and nothing of it becomes committed
 module _ (rows : Rows) (live : FiniteMap nat_cmp Live) (table after : RowTable) (tabled : Tabled rows live table) where

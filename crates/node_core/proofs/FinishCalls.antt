@@ -18,20 +18,9 @@ use Rattle.node_meaning.specs.Units.{unit_task}
 use Rattle.node_meaning.proofs.EntryLaws.{number-itself, Inserted, Here, There, inserted}
 use Rattle.node_meaning.proofs.LockLaws.{locks_of-same_unit}
 use Rattle.node_meaning.proofs.FinishFacts.{finish_keeps}
-use Rattle.node_parts.specs.Units.{Work, UnitTable, finished, finished_unit, finished_work}
-use Rattle.node_parts.specs.Units.{is_started as is_started_there, is_started_stage as is_started_stage_there}
+use Rattle.node_parts.specs.Units.{Work, UnitTable, finished, finished_unit, finished_work, is_started, is_started_stage}
 use Rattle.node_core.specs.declared.node.Node.{Node}
-use Rattle.node_core.specs.Answers.{is_started, is_started_stage}
 use Rattle.node_core.specs.Stands.{Stands, Tables, AreWorked, IsWorked, DoneOver, plain_of}
-
--- the parts' test is the node's
-same_stage : (s : Stage) → is_started_stage_there s ≡ is_started_stage s
-same_stage Started = refl
-same_stage Finished = refl
-
-pub same_started : (o : Option ApplyUnit) → is_started_there o ≡ is_started o
-same_started None = refl
-same_started (Some u) = same_stage u.stage
 
 -- ---- the step
 stage_step : (n : ModelNode) (number : ℕ) (keys : Keys) (stage : Stage) → is_started_stage stage ≡ true
@@ -135,12 +124,12 @@ module _ (order : List Event) (node : Node) (done : ModelTask) (stands : Stands 
 
 pub finish_does : (order : List Event) (node : Node) (done : ModelTask) (units : UnitTable) (number : ℕ) (started : Bool) → Stands order node
     → (IsTrue (is_started (get node.units.units done.number)) → done ≡ unit_task order done.number)
-    → number ≡ done.number → started ≡ true → started ≡ is_started_there (get node.units.units number)
+    → number ≡ done.number → started ≡ true → started ≡ is_started (get node.units.units number)
     → units ≡ finished node.units done
     → DoneOver order (λ n. finish_step n done.number) node (record node { units = units }) (answer.Finished number)
 finish_does order node done units number started stands work named is given made =
     let test : is_started (get node.units.units done.number) ≡ true
-    = sym (same_started (get node.units.units done.number)) ∙ ap (λ k. is_started_there (get node.units.units k)) (sym named) ∙ sym given ∙ is in
+    = ap (λ k. is_started (get node.units.units k)) (sym named) ∙ sym given ∙ is in
     subst (λ (k : ℕ). DoneOver order (λ n. finish_step n done.number) node (record node { units = units }) (answer.Finished k)) (sym named)
     (subst (λ (t : UnitTable). DoneOver order (λ n. finish_step n done.number) node (record node { units = t }) (answer.Finished done.number)) (sym made)
     (finish_done order node done stands (work test) test))

@@ -9,10 +9,11 @@ use Rattle.std.proofs.lemmas.List.Sums.{fold_more}
 use Rattle.finite_map.specs.FiniteMap.{get}
 use Rattle.row_model.specs.declared.row.RowId.{RowId}
 use Rattle.row_model.specs.declared.ops.Op.{Op}
-use Rattle.row_model.specs.Rows.{Rows, row_cmp, id_of}
+use Rattle.row_model.specs.Rows.{Rows, row_cmp, id_of, ops_on}
 use Rattle.row_model.specs.RowOrder.{row_eq, row_ties, row_itself}
-use Rattle.apply_unit.specs.Results.{Image}
+use Rattle.apply_unit.specs.Results.{Image, AreTaken, computed, put_all}
 use Rattle.apply_unit.specs.Task.{AreImagesOf}
+use Rattle.apply_unit.proofs.PutLemmas.{put_all-computed}
 use Rattle.apply_unit.proofs.TaskLemmas.{row_symmetric}
 use Rattle.node_meaning.specs.Units.{with_id, named_rows, images_of}
 
@@ -157,6 +158,15 @@ images_are ops rows = record {
 
 pub given_images : (ops : List Op) (rows : Rows) (images : List Image) → images ≡ images_of ops rows → AreImagesOf ops images
 given_images ops rows images is = subst (AreImagesOf ops) (sym is) (images_are ops rows)
+
+images_taken : (rows : Rows) (ids : List RowId) → AreTaken rows (map {B = Image} (λ (id : RowId). (id, get rows id)) ids)
+images_taken rows [] = tt
+images_taken rows (id ∷ ids) = (refl, images_taken rows ids)
+
+-- the results over the images of rows, put into these
+pub put_named : (ops : List Op) (rows : Rows) → put_all (computed ops (images_of ops rows)) rows ≡ ops_on ops rows
+put_named ops rows =
+    put_all-computed ops (images_of ops rows) rows (images_are ops rows) (images_taken rows (named_rows ops))
 
 -- as many as rows are named
 count_mapped : (rows : Rows) (ids : List RowId) → length (map {B = Image} (λ (id : RowId). (id, get rows id)) ids) ≡ length ids

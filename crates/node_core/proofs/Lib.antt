@@ -3,12 +3,10 @@ pub mod BeginCalls
 pub mod CertifyCalls
 pub mod CertifyStep
 pub mod ClientCalls
-pub mod CommitterThere
 pub mod FinishCalls
 pub mod Growth
 pub mod ImageCalls
 pub mod KillCalls
-pub mod NamedRows
 pub mod NewCalls
 pub mod PutLoop
 pub mod Standing

@@ -1,12 +1,10 @@
 -- what the calls of a node answer, as the answers of steps
-use Rattle.std.specs.Prelude.{◌≡◌, ℕ, Bool, true, false, List, Option, Some, None}
+use Rattle.std.specs.Prelude.{◌≡◌, ℕ, List}
 use Rattle.order_event.specs.declared.event.Event.{Event}
-use Rattle.node_meaning.specs.declared.progress.Stage.{Stage}
-use Rattle.node_meaning.specs.declared.progress.Stage.TheVariants as stage
-use Rattle.node_meaning.specs.Node.{ApplyUnit}
 use Rattle.node_meaning.specs.Units.{unit_task}
 use Rattle.order_event.specs.declared.step.Answer.{Answer}
 use Rattle.order_event.specs.declared.step.Answer.TheVariants as answer
+pub use Rattle.node_parts.specs.Units.{is_started, is_started_stage}
 use Rattle.node_core.specs.declared.answers.Taken.{Taken}
 use Rattle.node_core.specs.declared.answers.Taken.TheVariants as taken
 use Rattle.node_core.specs.declared.answers.Certified.{Certified}
@@ -42,12 +40,3 @@ GivesTask order number (started.Unit task victims) = task ≡ unit_task order nu
 GivesTask order number (started.NotYet earlier) = Unit {0}
 GivesTask order number started.Local = Unit {0}
 GivesTask order number started.NoUnit = Unit {0}
-
-abbrev pub is_started_stage : Stage → Bool
-is_started_stage stage.Started = true
-is_started_stage stage.Finished = false
-
--- whether there is a unit that is started and not finished
-abbrev pub is_started : Option ApplyUnit → Bool
-is_started None = false
-is_started (Some unit) = is_started_stage unit.stage

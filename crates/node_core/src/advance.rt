@@ -64,8 +64,6 @@ impl Node {
     fn end_committer(&mut self, number: u64)
         ensures { AfterCommitter (committer self.old.live number) number self.old self.new }
     {
-        // Sessions lie below this number.
-        let _sessions = self.live.session_end();
         match committer_of(&self.live, number) {
             Some(session) => self.commit_own(number, session),
             None => {}

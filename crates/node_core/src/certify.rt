@@ -64,8 +64,6 @@ impl Node {
         let Some(session) = session_of(&self.live, begin) else {
             return;
         };
-        // Sessions lie below this number.
-        let _sessions = self.live.session_end();
         let Some(mut trx) = self.live.take(session) else {
             return;
         };

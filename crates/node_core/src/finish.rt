@@ -9,7 +9,7 @@ impl Node {
     ghost use Rattle.order_event.specs.declared.step.Answer.TheVariants as answer;
     ghost use Rattle.node_meaning.specs.Steps.{finish_step};
     ghost use Rattle.node_meaning.specs.Units.{unit_task};
-    ghost use Rattle.node_core.specs.Answers.{is_started};
+    ghost use Rattle.node_parts.specs.Units.{is_started};
     ghost use Rattle.node_core.specs.Stands.{IsStanding, Stands, Does};
 
     /// Takes the work of a started unit. The value comes back where its number is no such unit.

@@ -153,7 +153,6 @@ impl Node {
     fn kill(&mut self, number: u64, session: u8)
         ensures { Aborts (λ n. kill_session number n session) self.old self.new }
     {
-        let _sessions = self.live.session_end();
         let Some(mut trx) = self.live.take(session) else {
             return;
         };

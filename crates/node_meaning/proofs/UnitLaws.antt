@@ -24,9 +24,6 @@ use Rattle.node_meaning.proofs.AdvanceFacts.{Applies, rows-commit}
 use Rattle.node_meaning.proofs.CoveredLaws.{AllCovered, commit_covered, row_before}
 
 -- ---- by the number of an event
-pub rows_before-next : (order : List Event) (p : ℕ) → rows_before order (p + 1) ≡ rows_at order p
-rows_before-next order p = ap (rows_before order) (add-one p)
-
 pub ops_at-next : (order : List Event) (p : ℕ) → ops_at order (p + 1) ≡ ops_by (state_at order p) (slice_get order p)
 ops_at-next order p = ap (ops_at order) (add-one p)
 

@@ -61,20 +61,21 @@ step_of c i n act.Leave = (answer.Nothing, c)
 step_of c i n (act.Join fresh) = (answer.Nothing, c)
 step_of c i n (act.Transfer donor) = (answer.Nothing, c)
 
--- a step that names no node of the cluster does nothing
+-- a step of a node that is not there does nothing
 abbrev pub step_at : ModelCluster → ℕ → Option ModelNode → Act → Answer × ModelCluster
 step_at c i None a = (answer.Nothing, c)
 step_at c i (Some n) a = step_of c i n a
 
--- one step of the cluster; nodes are numbered from 1
+-- one step of the cluster; nodes are numbered from 1, and 0 is read as 1
 unfoldable pub cluster_step : ModelCluster → Step → Answer × ModelCluster
 cluster_step c step = step_at c (step.node - 1) (slice_get c.nodes (step.node - 1)) step.act
 
--- how many events a step is going to order
+-- the oldest message of an outbox, where there is one
 abbrev pub orders_of : List Message → ℕ
 orders_of [] = 0
 orders_of (m ∷ ms) = 1
 
+-- how many events a step is going to order
 abbrev pub node_orders : Act → ModelNode → ℕ
 node_orders act.Order n = orders_of n.outbox
 node_orders act.Drain n = length n.outbox

@@ -102,9 +102,6 @@ unit_lock e = some_keys true (UnitHolder e.0) e.1.keys
 abbrev pub locks_of : FiniteMap nat_cmp Live → FiniteMap nat_cmp ApplyUnit → Locks
 locks_of live units = from_entries (filter_map live_lock live.entries ++ filter_map unit_lock units.entries)
 
-abbrev pub with_progress : ModelNode → Progress → ModelNode
-with_progress n at = record n { at = at }
-
 abbrev pub set_live : ModelNode → ℕ → Live → ModelNode
 set_live n session t = record n { live = insert n.live session t }
 

@@ -240,7 +240,7 @@ advance_step order n =
     else (answer.NotReady number, n)
 
 -- ---- all steps of one node
--- a step of a node by itself. Those of later stages answer NOTHING and change nothing.
+-- a step of a node by itself: those that order events, and those of later stages, answer NOTHING here and change nothing
 abbrev pub node_step : List Event → ModelNode → Act → Answer × ModelNode
 node_step order n (act.Client session c) =
     let said = client order n session c in (answer.Client said.0, said.1)

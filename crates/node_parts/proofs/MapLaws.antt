@@ -25,9 +25,6 @@ module _ {X : Type 0} where
   pub removed_here : (m : FiniteMap nat_cmp X) (k : ℕ) → get (remove m k) k ≡ None
   removed_here m k = get_removed m k k ∙ ap (λ b. cond b None (get m k)) (eq-eqb k k refl)
 
-  pub removed_elsewhere : (m : FiniteMap nat_cmp X) (k q : ℕ) → (q ≡ k → ⊥) → get (remove m k) q ≡ get m q
-  removed_elsewhere m k q apart = get_removed m k q ∙ ap (λ b. cond b None (get m q)) (ne_eqb q k apart)
-
   -- what is absent is removed already
   pub removed_absent : (m : FiniteMap nat_cmp X) (k : ℕ) → get m k ≡ None → remove m k ≡ m
   removed_absent m k none = same (remove m k) m (λ q. get_removed m k q ∙ either q (eqb q k) refl)

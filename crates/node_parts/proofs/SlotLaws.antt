@@ -1,6 +1,6 @@
 -- Items in places, as a map from sessions: what each edit of a place makes of the map.
 use Rattle.std.proofs.Common.{◌≡◌, ℕ, zero, suc, ◌<◌, ◌≤◌, Bool, true, false, cond, eqb, ltb, List, length, get_or, set, Option, Some, None, refl, sym, ap, subst, ◌∙◌, arith, eqb-true, ltb-true, replicate, true≢false}
-use Rattle.std.specs.Prelude.{is_some}
+use Rattle.std.specs.Prelude.{is_some, IfSome}
 use Rattle.std.proofs.lemmas.Bool.{eqb-false, ltb-false}
 use Rattle.std.proofs.lemmas.List.{get_or-set_same, get_or-set_other, get_or_past, get_or_default, get_or-replicate, length-replicate, length-set}
 use Rattle.std.specs.Ordering.{nat_cmp}
@@ -141,3 +141,8 @@ module _ {X : Type 0} where
             first_place q (eqb q 0) (get_or ps q None) x refl (λ e. ap (λ k. get_or ps k None) e ∙ good.unused) at,
             last_place ps q x (ltb q 33) good.count refl at,
           )
+
+  -- what is an item of the map is an item of a session
+  pub item_within : (m : FiniteMap nat_cmp X) (q : ℕ) (o : Option X) → HasSessions m → o ≡ get m q → IfSome o (λ x. (1 ≤ q) × (q ≤ 32))
+  item_within m q None sessions is = tt
+  item_within m q (Some x) sessions is = sessions q x (sym is)

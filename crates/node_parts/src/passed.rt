@@ -55,7 +55,10 @@ impl Passed {
         ensures ops { self.new.ops ≡ insert self.old.ops number ops }
         ensures spare { self.old.spare ≤ self.new.spare + 1 }
     {
-        let _ = self.commits.push_back((number, ops));
+        match self.commits.push_back((number, ops)) {
+            Ok(()) => {}
+            Err(_) => unreachable!(),
+        }
     }
 
     /// The changes of the commit with this number.

@@ -20,6 +20,13 @@ pub struct Queue {
     ordered: usize,
 }
 
+// What a message is: a write set or a report.
+#[derive(Clone, Copy, Debug, PartialEq, Eq)]
+enum MessageKind {
+    Write,
+    Report,
+}
+
 impl Model for Queue {
     ghost use Rattle.std.specs.Prelude.{◌≤◌, length, take, drop};
     ghost use Rattle.node_parts.specs.Queue.{Queued};
@@ -32,7 +39,7 @@ impl Model for Queue {
 }
 
 impl Queue {
-    ghost use Rattle.node_parts.specs.Queue.{Queued, nothing_sent, oldest, queued, moved, taken};
+    ghost use Rattle.node_parts.specs.Queue.{nothing_sent, oldest, queued, moved, taken};
 
     /// Nothing was sent. It takes no memory.
     pub fn new(alloc: Global) -> Queue
@@ -51,15 +58,6 @@ impl Queue {
     {
         self.messages.push_back(message)?;
         Ok(())
-    }
-
-    /// Takes back the newest message that waits.
-    pub fn unsend(&mut self)
-        ensures { (queue : Queued) (message : Message) → self.old ≡ queued queue message → self.new ≡ queue }
-    {
-        if self.ordered < self.messages.len() {
-            self.messages.pop_back();
-        }
     }
 
     /// The oldest message that waits to be ordered.
@@ -97,7 +95,7 @@ impl Queue {
     fn first_write(&self) -> Option<&Message>
         ensures { option_copied result ≡ find is_write self.now.ordered }
     {
-        match place_of(&self.messages, self.ordered, true) {
+        match place_of(&self.messages, self.ordered, MessageKind::Write) {
             Some(at) => self.messages.get(at),
             None => None,
         }
@@ -108,7 +106,7 @@ impl Queue {
         ensures ordered { self.new.ordered ≡ without_first is_write self.old.ordered }
         ensures outbox { self.new.outbox ≡ self.old.outbox }
     {
-        self.take_first(true);
+        self.take_first(MessageKind::Write);
     }
 
     /// The oldest report that is ordered is taken.
@@ -116,38 +114,38 @@ impl Queue {
         ensures ordered { self.new.ordered ≡ without_first is_report self.old.ordered }
         ensures outbox { self.new.outbox ≡ self.old.outbox }
     {
-        self.take_first(false);
+        self.take_first(MessageKind::Report);
     }
 
-    fn take_first(&mut self, write: bool)
-        ensures { self.new ≡ taken (is_kind write) self.old }
+    fn take_first(&mut self, kind: MessageKind)
+        ensures { self.new ≡ taken (is_kind kind) self.old }
     {
-        if let Some(at) = place_of(&self.messages, self.ordered, write) {
+        if let Some(at) = place_of(&self.messages, self.ordered, kind) {
             self.messages.remove(at);
             self.ordered -= 1;
         }
     }
 }
 
-// Where the first of the ordered messages that is a write set, or a report, stands.
-fn place_of(messages: &VecDeque<Message>, ordered: usize, write: bool) -> Option<usize>
+// Where the first of the ordered messages of the kind stands.
+fn place_of(messages: &VecDeque<Message>, ordered: usize, kind: MessageKind) -> Option<usize>
     requires { ordered ≤ length messages.now.items }
-    ensures { result ≡ place (is_kind write) (take ordered messages.now.items) }
+    ensures { result ≡ place (is_kind kind) (take ordered messages.now.items) }
 {
     for at in 0..ordered {
-        if is_kind(&messages[at], write) {
+        if is_kind(&messages[at], kind) {
             return Some(at);
         }
     }
     None
 }
 
-// Whether the message is a write set, or else a report.
-fn is_kind(message: &Message, write: bool) -> bool
-    ensures { result ≡ is_kind write message.now }
+// Whether the message is of the kind.
+fn is_kind(message: &Message, kind: MessageKind) -> bool
+    ensures { result ≡ is_kind kind message.now }
 {
-    match message {
-        Message::Write(_) => write,
-        Message::Report(_) => !write,
+    match kind {
+        MessageKind::Write => matches!(message, Message::Write(_)),
+        MessageKind::Report => matches!(message, Message::Report(_)),
     }
 }

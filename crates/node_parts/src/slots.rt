@@ -1,4 +1,4 @@
-ghost use Rattle.std.specs.Prelude.{◌≡◌, ◌≤◌, is_some, IfOk};
+ghost use Rattle.std.specs.Prelude.{◌≡◌, ◌≤◌, is_some, IfOk, IfSome};
 ghost use Rattle.std.specs.Option.{option_copied};
 ghost use Rattle.finite_map.specs.FiniteMap.{empty, get, insert, remove};
 ghost use Rattle.node_parts.specs.Slots.{HasSessions};
@@ -79,6 +79,7 @@ impl<T: Drop> Slots<T> {
     pub fn take(&mut self, session: u8) -> Option<T>
         ensures value { result ≡ get self.old session }
         ensures after { self.new ≡ remove self.old session }
+        ensures within { IfSome result (λ item. (1 ≤ session) × (session ≤ 32)) }
     {
         let session = usize::from(session);
         if session < 33 {

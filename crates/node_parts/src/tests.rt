@@ -43,8 +43,6 @@ fn a_queue_orders_its_messages(rt: HostRuntime) -> Result<(), Fail> {
     assert_eq!(rt; queue.first_out(), Some(&Message::Write(body.clone()?)));
     queue.sent_out();
     queue.push(Message::Report(1))?;
-    queue.push(Message::Report(2))?;
-    queue.unsend();
     assert_eq!(rt; queue.outbox_len(), 1);
     queue.take_report();
     assert!(rt; queue.is_next_write(&body));

@@ -1,4 +1,4 @@
-ghost use Rattle.std.specs.Prelude.{◌≡◌, option_map};
+ghost use Rattle.std.specs.Prelude.{◌≡◌, ◌≤◌, option_map, IfSome};
 ghost use Rattle.std.specs.List.{find};
 ghost use Rattle.node_meaning.specs.Steps as steps;
 ghost use Rattle.node_parts.specs.Sessions.{is_wanted};
@@ -34,14 +34,16 @@ pub fn is_local(live: &Slots<Trx>, number: u64) -> bool
 
 /// The session of the live transaction that commits at this number.
 pub fn committer_of(live: &Slots<Trx>, number: u64) -> Option<u8>
-    ensures { result ≡ option_map (λ e. e.0) (steps.committer_of live.now number) }
+    ensures value { result ≡ option_map (λ e. e.0) (steps.committer_of live.now number) }
+    ensures within { IfSome result (λ session. (1 ≤ session) × (session ≤ 32)) }
 {
     find(live, Wanted::CommitsAt(number))
 }
 
 // The first session whose transaction is the wanted one.
 fn find(live: &Slots<Trx>, wanted: Wanted) -> Option<u8>
-    ensures { result ≡ option_map (λ e. e.0) (find (λ e. is_wanted wanted e.1) live.now.entries) }
+    ensures value { result ≡ option_map (λ e. e.0) (find (λ e. is_wanted wanted e.1) live.now.entries) }
+    ensures within { IfSome result (λ session. (1 ≤ session) × (session ≤ 32)) }
 {
     for session in 0..live.session_end() {
         if let Some(trx) = live.get(session)

@@ -5,4 +5,3 @@ pub mod TableLemmas
 pub mod LinkLemmas
 pub mod HolderListLemmas
 pub mod SessionLemmas
-pub mod GrantLemmas

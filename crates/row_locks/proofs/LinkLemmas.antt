@@ -10,9 +10,9 @@ use Rattle.finite_map.specs.FiniteMap.{empty, get, keys, get-empty, get-entries,
 use Rattle.finite_map.specs.Links.{Linked, none_linked, linked_along, link_added, none_newest, newest_linked, newest_taken}
 use Rattle.key_sets.specs.declared.kind.Kind.{Kind}
 use Rattle.key_sets.specs.declared.parts.Parts.{Parts}
-use Rattle.key_sets.specs.Parts.{parts_cmp}
+use Rattle.key_sets.specs.Parts.{parts_cmp, parts_eq}
 use Rattle.key_sets.specs.Keys.{Keys}
-use Rattle.key_sets.proofs.PartsLemmas.{parts_total, parts_exact, parts_eq, parts_eq-same, same_parts-exact, same_parts-itself}
+use Rattle.key_sets.proofs.PartsLemmas.{parts_total, parts_exact, parts_eq-same, same_parts-exact, same_parts-itself}
 use Rattle.row_locks.specs.declared.holder.Holder.{Holder}
 use Rattle.row_locks.specs.declared.lock_table.LockKey.{LockKey}
 use Rattle.row_locks.specs.declared.lock_table.Lock.{Lock}

@@ -39,10 +39,6 @@ pub keys_at-with_lock : (locks : Locks) (h : Holder) (p : Parts) (k : Kind) (q :
     → keys_at (with_lock locks h p k) q ≡ cond (same_holder q h) (with_key (keys_at locks h) p k) (keys_at locks q)
 keys_at-with_lock locks h p k q = keys_at-insert locks h (with_key (keys_at locks h) p k) q
 
-pub get-with_lock : (locks : Locks) (h : Holder) (p : Parts) (k : Kind) (q : Holder)
-    → get (with_lock locks h p k) q ≡ cond (same_holder q h) (Some (with_key (keys_at locks h) p k)) (get locks q)
-get-with_lock locks h p k q = get-insert holder_total locks h (with_key (keys_at locks h) p k) q
-
 -- after a holder is taken out it has no keys, and the others have what they had
 pub keys_at-remove : (locks : Locks) (h q : Holder)
     → keys_at (remove locks h) q ≡ cond (same_holder q h) empty (keys_at locks q)

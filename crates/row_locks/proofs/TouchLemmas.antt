@@ -2,12 +2,12 @@
 use Rattle.std.proofs.Common.{◌≡◌, ℕ, Bool, true, false, ◌&&◌, ◌||◌, cond, List, [], ◌∷◌, ◌++◌, Option, None, Some, refl, sym, ap, ◌∙◌, append-nil}
 use Rattle.std.specs.Prelude.{is_some, flat_map}
 use Rattle.std.specs.List.{list_any}
-use Rattle.finite_map.specs.FiniteMap.{empty, get, entries-insert, get-empty}
+use Rattle.finite_map.specs.FiniteMap.{empty, get, entries-insert}
 use Rattle.key_sets.specs.declared.kind.Kind.{Kind}
 use Rattle.key_sets.specs.declared.kind.Kind.TheVariants.{Shared}
 use Rattle.key_sets.specs.declared.parts.Parts.{Parts}
 use Rattle.key_sets.specs.Kinds.{kinds_touch}
-use Rattle.key_sets.specs.Parts.{parts_cmp, same_parts, table_of}
+use Rattle.key_sets.specs.Parts.{same_parts, table_of}
 use Rattle.key_sets.specs.Keys.{Keys, meet, touches, one_key, pairs_of, pairs_of_key, pairs_meet}
 use Rattle.key_sets.specs.Probes.{passes, keys_meet, table_meets, tables_meet}
 use Rattle.key_sets.proofs.KindLaws.{kinds_touch-symm}
@@ -159,19 +159,3 @@ touches-above b p k name is here =
 pub touches-below : (b : Keys) (p : Parts) (k : Kind) → p.row ≡ None → passes (kinds_touch k) (get b p) ≡ false
     → touches (one_key p k) b ≡ kinds_touch Shared k && has_row_of b p
 touches-below b p k is here = touches-table b p k is ∙ ap (λ c. c || (kinds_touch Shared k && has_row_of b p)) here
-
--- no key touches an empty set
-pub touches-none : (p : Parts) (k : Kind) (b : Keys) → b ≡ empty → touches (one_key p k) b ≡ false
-unfolding empty
-touches-none p k b is =
-    touches-one b p k
-    ∙ (λ i. passes (kinds_touch k) (get (is i) p) || ((is_some p.row && passes (kinds_touch Shared) (get (is i) (table_of p))) || (kinds_touch Shared k && has_row_of (is i) p)))
-    ∙ (λ i. passes (kinds_touch k) (get-empty {X = Kind} parts_cmp p i)
-    || ((is_some p.row && passes (kinds_touch Shared) (get-empty {X = Kind} parts_cmp (table_of p) i)) || (kinds_touch Shared k && false)))
-    ∙ by (is_some p.row) (kinds_touch Shared k)
-  where
-    by : (c d : Bool) → false || ((c && false) || (d && false)) ≡ false
-    by true true = refl
-    by true false = refl
-    by false true = refl
-    by false false = refl

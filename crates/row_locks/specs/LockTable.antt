@@ -10,9 +10,8 @@ use Rattle.finite_map.specs.Links.{Linked}
 use Rattle.key_sets.specs.declared.kind.Kind.{Kind}
 use Rattle.key_sets.specs.declared.parts.Parts.{Parts}
 use Rattle.key_sets.specs.Kinds.{stronger}
-use Rattle.key_sets.specs.Parts.{same_parts, table_of}
+use Rattle.key_sets.specs.Parts.{same_parts, table_of, parts_eq}
 use Rattle.key_sets.specs.Keys.{Keys, touches, one_key}
-use Rattle.key_sets.proofs.PartsLemmas.{parts_eq}
 use Rattle.row_locks.specs.contracts.holder.HolderPartialEq.TheImpl as derived
 use Rattle.row_locks.specs.declared.holder.Holder.{Holder}
 use Rattle.row_locks.specs.declared.holder.Holder.TheVariants.{Session, Unit}

@@ -267,7 +267,10 @@ fn put_newest(holders: &mut Vec<(Holder, Parts)>, holder: Holder, parts: Parts)
     if at < holders.len() && holders[at].0 == holder {
         holders[at].1 = parts;
     } else {
-        let _ = holders.insert(at, (holder, parts));
+        match holders.insert(at, (holder, parts)) {
+            Ok(()) => {}
+            Err(_) => unreachable!(),
+        }
     }
 }
 

@@ -66,13 +66,3 @@ seen-kept m n rows after owner id row is left_is after_is q =
     ∙ ap (seen_of owner (cond (eq_by_cmp row_cmp q id) None (get m q)))
     (ap (λ (x : Rows). get x q) after_is ∙ get-with_row rows id row q)
     ∙ moved_over owner (get m q) row (get rows q) (eq_by_cmp row_cmp q id) (tied_at m id q (owner, row) is)
-
-sees_committed : (owner : ℕ) (c : Option Change) (committed : Option (List ℕ)) → is_owned_by owner c ≡ false
-    → seen_of owner c committed ≡ committed
-sees_committed owner None committed e = refl
-sees_committed owner (Some change) committed e = ap (λ b. cond b change.1 committed) e
-
--- an owner without changes sees the committed rows
-pub seen-none : (m : Changes) (rows : Rows) (owner : ℕ) → ((q : RowId) → is_owned_by owner (get m q) ≡ false)
-    → (q : RowId) → seen_of owner (get m q) (get rows q) ≡ get rows q
-seen-none m rows owner none q = sees_committed owner (get m q) (get rows q) (none q)

@@ -2,7 +2,7 @@ ghost use Rattle.std.specs.Prelude.{◌≡◌, ◌+◌, ◌<◌, ◌≤◌, ◌-
 ghost use Rattle.std.specs.HashMap.{spare};
 ghost use Rattle.finite_map.specs.FiniteMap.{empty, get};
 ghost use Rattle.row_model.specs.declared.row.RowId.{RowId};
-ghost use Rattle.row_model.specs.Rows.{with_row, id_of};
+ghost use Rattle.row_model.specs.Rows.{with_row};
 ghost use Rattle.undo_rows.specs.Overlay.{rows_in};
 ghost use Rattle.undo_rows.specs.RowTable.{seen, seen_of, written, without, other_owner, row_items};
 
@@ -65,7 +65,7 @@ impl Rows for Overlay {
     ghost table = { λ o. o };
 
     fn write(&mut self, owner: u8, op: &Op) -> Result<Written, NoMemory> {
-        let id = row_of(op);
+        let id = op.id();
         if let Some(other) = self.other_owner(owner, &id) {
             return Ok(Written::Owned(other));
         }
@@ -115,17 +115,6 @@ impl Rows for Overlay {
     }
 }
 
-// The row that a change names.
-fn row_of(op: &Op) -> RowId
-    ensures { result ≡ id_of op.now }
-{
-    match op {
-        Op::Insert(id, _) => *id,
-        Op::Update(id, _) => *id,
-        Op::Delete(id) => *id,
-    }
-}
-
 // Puts a row there, or none. There is room for it.
 fn set_row(rows: &mut HashMap<RowId, Row>, id: &RowId, row: Option<Row>)
     requires { 0 < spare rows.old }
@@ -133,9 +122,10 @@ fn set_row(rows: &mut HashMap<RowId, Row>, id: &RowId, row: Option<Row>)
     ensures spare { spare rows.old ≤ spare rows.new + 1 }
 {
     match row {
-        Some(row) => {
-            let _ = rows.insert(*id, row);
-        }
+        Some(row) => match rows.insert(*id, row) {
+            Ok(_) => {}
+            Err(_) => unreachable!(),
+        },
         None => {
             let _ = rows.remove(id);
         }

@@ -8,6 +8,7 @@ ghost use Rattle.write_set.specs.Spelling.{place_text, values_text, row_values_t
 use crate::cursor::Cursor;
 use crate::fault::WsFault;
 use crate::names::{NameRole, name_of, put_name};
+use crate::rules::MOST_OPS;
 use row_model::{Change, Op, OpList, Row, RowId};
 use std::alloc::Global;
 use wsrep_base::{ByteList, NoMemory, put_u32, put_u64};
@@ -180,7 +181,7 @@ pub(crate) fn ops_of<'a>(
     if rollback && (keyed || count != 0) {
         return Err(WsFault::BadFlags);
     }
-    if count > 8192 {
+    if count as usize > MOST_OPS {
         return Err(WsFault::TooMany(at));
     }
     some_ops_of(alloc, count, after)
@@ -266,7 +267,7 @@ fn put_op(out: &mut ByteList, op: &Op) -> Result<(), NoMemory>
 
 /// Appends the number of changes, and the changes. Where it fails, some of it may stand there.
 pub(crate) fn put_all_ops(out: &mut ByteList, ops: &[Op]) -> Result<(), NoMemory>
-    requires { length ops.now ≤ 8192 }
+    requires { length ops.now ≤ MOST_OPS }
     ensures { OnOk result (out.new ≡ out.old ++ ops_text ops.now) }
 {
     put_u32(out, ops.len() as u32)?;

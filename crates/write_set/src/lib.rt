@@ -16,7 +16,7 @@ mod writing;
 pub use fault::WsFault;
 pub use laws::one_spelling;
 pub use reading::{decode, read_keys, read_ops};
-pub use rules::is_valid;
+pub use rules::{END, MOST_OPS, ROLLBACK, START, is_valid};
 pub use write_set::WriteSet;
 pub use writing::{encode, put_keys, put_ops};
 

@@ -11,11 +11,17 @@ use crate::write_set::WriteSet;
 use key_sets::{KeySet, Kind, Parts, PartsTest};
 use row_model::{Op, RowId};
 
-/// The flag of a rollback, which stands alone.
-pub(crate) const ROLLBACK: u8 = 4;
+/// The flag of a transaction's first write set.
+pub const START: u8 = 1;
 
-/// The most changes of a write set.
-pub(crate) const MOST_OPS: usize = 8192;
+/// The flag of a commit.
+pub const END: u8 = 2;
+
+/// The flag of a rollback, which stands alone.
+pub const ROLLBACK: u8 = 4;
+
+/// The most changes of a write set, and of a transaction.
+pub const MOST_OPS: usize = 8192;
 
 /// Whether the flags and the fragment number go together.
 pub(crate) fn flags_fit(flags: u8, fragment: u32) -> bool
@@ -23,12 +29,12 @@ pub(crate) fn flags_fit(flags: u8, fragment: u32) -> bool
 {
     if flags == ROLLBACK {
         fragment == 0
-    } else if flags > 3 {
+    } else if flags > START + END {
         false
     } else if fragment == 0 {
-        flags == 1 || flags == 3
+        flags == START || flags == START + END
     } else {
-        flags == 0 || flags == 2
+        flags == 0 || flags == END
     }
 }
 

@@ -3,7 +3,7 @@ ghost use Rattle.std.specs.Prelude.{◌≡◌, IfOk};
 ghost use Rattle.cert_meaning.specs.Verdict.{is_start, trx_of, is_out_of_place, is_broken, conflict_of, held_by, conflict_or_held, verdict};
 
 use super::FoldState;
-use crate::fragments::{last_seen_of, whole_keys};
+use crate::fragments::{is_too_large, last_seen_of};
 use crate::search;
 use crate::sets::{is_rollback, is_start, trx_of};
 use key_sets::{KeySet, Relation};
@@ -66,8 +66,7 @@ impl FoldState {
         if set.last_seen < last_seen_of(fragments) {
             return Ok(true);
         }
-        let whole = whole_keys(self.alloc(), fragments, &set.keys)?;
-        Ok(whole.is_none())
+        is_too_large(self.alloc(), fragments, &set.keys)
     }
 
     // Whether it begins a transaction that is open, or continues one that is not open or stands

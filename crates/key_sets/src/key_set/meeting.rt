@@ -25,7 +25,7 @@ pub fn touches(a: &KeySet, b: &KeySet) -> bool
 }
 
 /// Whether at some parts a kind of the one set and a kind of the other are so related. It goes over
-/// the smaller set for the keys that both may have.
+/// the smaller set; over the larger one too only where the smaller has a key of a table.
 pub fn meet(relation: Relation, a: &KeySet, b: &KeySet) -> bool
     ensures { result ≡ keys.meet (probes.kind_test relation) a.now b.now }
 {
@@ -43,7 +43,7 @@ impl KeySet {
     {
         self.keys_meet(relation, other)
             || self.tables_meet(relation, other)
-            || other.tables_meet(relation, self)
+            || self.is_met_by_rows(relation, other)
     }
 
     // Whether some key meets the other set's key with the same parts.
@@ -60,6 +60,21 @@ impl KeySet {
     {
         let mut pairs = self.kinds.iter();
         pairs.any(|(parts, _)| other.table_meets(relation, parts))
+    }
+
+    // Whether some row's key of the other set meets the key of its table here.
+    fn is_met_by_rows(&self, relation: Relation, other: &KeySet) -> bool
+        ensures { result ≡ probes.tables_meet (probes.kind_test relation) other.now self.now }
+    {
+        self.has_table() && other.tables_meet(relation, self)
+    }
+
+    // Whether it has a key of a table.
+    fn has_table(&self) -> bool
+        ensures { result ≡ probes.has_table self.now }
+    {
+        let mut pairs = self.kinds.iter();
+        pairs.any(|(parts, _)| parts.row.is_none())
     }
 
     // Whether the parts are a row's, and its kind shared meets the key of the table.

@@ -6,5 +6,5 @@ use Rattle.node_parts.proofs.transactions.is_local.Goals as goal
 
 pub returns : goal.returns
 returns c =
-    c.is_some.ensures ∙ ap is_some c.find.ensures ∙ some_mapped (λ e. e.0) _
+    c.is_some.ensures ∙ ap is_some c.find.ensures.value ∙ some_mapped (λ e. e.0) _
     ∙ any_found (λ e. is_certified_at c.args.number e.1.status) c.args.live.now.entries

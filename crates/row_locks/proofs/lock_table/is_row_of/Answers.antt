@@ -1,8 +1,8 @@
 -- `==` of parts answers as their order does.
 use Rattle.std.proofs.Common.{◌&&◌, ap, ◌∙◌}
 use Rattle.key_sets.specs.declared.parts.Parts.{Parts}
-use Rattle.key_sets.specs.Parts.{same_parts, table_of}
-use Rattle.key_sets.proofs.PartsLemmas.{parts_eq, parts_eq-same}
+use Rattle.key_sets.specs.Parts.{same_parts, table_of, parts_eq}
+use Rattle.key_sets.proofs.PartsLemmas.{parts_eq-same}
 use Rattle.row_locks.proofs.lock_table.is_row_of.Goals as goal
 
 pub returns-then-is_some : goal.returns-then-is_some

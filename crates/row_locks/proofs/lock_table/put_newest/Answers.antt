@@ -34,8 +34,8 @@ returns-then-eq-clause-holders c =
     ∙ get_or_default hs (place h hs) c.index_mut.result.now there inside in
     (λ i. slice_set hs (at i) ((entry i).0, c.args.parts)) ∙ sym (put-known h c.args.parts hs there inside known)
 
-pub returns-else-at-len-clause-holders : goal.returns-else-at-len-clause-holders
-returns-else-at-len-clause-holders c =
+pub returns-in-Ok-clause-holders : goal.returns-in-Ok-clause-holders
+returns-in-Ok-clause-holders c =
     let h = c.args.holder in
     let hs : List (Holder × Parts) = c.args.holders.now.items in
     let at : c.place_of-at.result ≡ place h hs = c.place_of-at.ensures ∙ ap (place h) c.deref.ensures.value in

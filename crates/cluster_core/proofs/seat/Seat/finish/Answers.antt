@@ -2,7 +2,6 @@
 use Rattle.std.proofs.Common.{refl, sym, ◌∙◌}
 use Rattle.cluster_core.proofs.SeatLaws.{kept_started, finish_work, finish_does, finish_none}
 use Rattle.cluster_core.proofs.seat.Seat.finish.Goals as goal
-use Rattle.cluster_core.proofs.seat.Seat.finish.Goals.{in-Ok, in-Err}
 
 pub returns-in_default : goal.returns-in_default
 returns-in_default c order s =
@@ -14,12 +13,12 @@ finish-requires c = record {
   work = finish_work c.args.self.now c.args.number c.in-Some.done (sym c.remove.ensures.value ∙ c.in-Some.is) c.requires.seated;
 }
 
+pub unreachable-requires : goal.unreachable-requires
+unreachable-requires c =
+    let e = kept_started c.args.self.now c.args.number c.in-Some.done (sym c.remove.ensures.value ∙ c.in-Some.is) c.requires.seated in
+    let f = c.in-Err.ensures.none in cc
+
 pub returns : goal.returns
 returns c order s =
-    elim c.match-finish.branch [
-      | in-Ok w ↦ rw w.result-is
-          (finish_does c.args.self.now c.args.number c.in-Some.done (sym c.remove.ensures.value ∙ c.in-Some.is) order
-          (record { node = c.finish.new.self; done = c.remove.new.self }) s c.remove.ensures.updates.0 _ (w.in-Ok.ensures.ok order s.stands))
-      | in-Err w ↦ absurd (let e = kept_started c.args.self.now c.args.number c.in-Some.done (sym c.remove.ensures.value ∙ c.in-Some.is) c.requires.seated in
-          let f = w.in-Err.ensures.none in cc)
-    ]
+    finish_does c.args.self.now c.args.number c.in-Some.done (sym c.remove.ensures.value ∙ c.in-Some.is) order
+    (record { node = c.finish.new.self; done = c.remove.new.self }) s c.remove.ensures.updates.0 _ (c.in-Ok.ensures.ok order s.stands)

@@ -19,7 +19,7 @@ pub returns-else-tables_meet : goal.returns-else-tables_meet
 returns-else-tables_meet c = elim c.if-keys_meet.branch [
   | then-keys_meet w ↦ let no = sym w.if-keys_meet.true ∙ sym w.value-is ∙ c.if-tables_meet.false in cc
   | else-keys_meet w ↦
-      c.tables_meet-else-tables_meet.ensures
+      c.is_met_by_rows.ensures
       ∙ last_probe (kind_test c.args.relation) (kind_test-symm c.args.relation) (kind_test-shared c.args.relation) c.args.self.now
       c.args.other.now (sym c.keys_meet.ensures ∙ w.if-keys_meet.false)
       (sym w.tables_meet.ensures ∙ sym w.value-is ∙ c.if-tables_meet.false)

@@ -3,9 +3,9 @@ use Rattle.std.proofs.lemmas.Grind.{common_steps}
 use Rattle.node_parts.specs.Passed.{PassedOps}
 use Rattle.node_parts.proofs.RisingLaws.{pushed, pushed_rising}
 use Rattle.node_parts.proofs.passed.Passed.push.Goals as goal
-use Rattle.node_parts.proofs.passed.Passed.push.Goals.{Joined-push_back}
+use Rattle.node_parts.proofs.passed.Passed.push.Goals.{In-Ok}
 
-more : (c : Joined-push_back) → c.push_back.new.self.items ≡ c.self.inside.commits.items ++ (c.args.number, c.args.ops) ∷ []
+more : (c : In-Ok) → c.push_back.new.self.items ≡ c.self.inside.commits.items ++ (c.args.number, c.args.ops) ∷ []
 more c =
     let room : 0 < c.self.inside.commits.cap - c.self.inside.commits.len =
     subst (λ n. 0 < n) (sym (ap (λ (p : PassedOps). p.spare) c.self.view_is)) c.requires.spare in
