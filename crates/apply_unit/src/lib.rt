@@ -3,8 +3,6 @@
 
 mod done;
 mod task;
-#[cfg(test)]
-mod tests;
 
 pub use done::Done;
 pub use task::Task;

@@ -11,39 +11,3 @@ pub fn victims(locks: &LockTable, keys: &KeySet) -> Result<SessionList, NoMemory
 {
     locks.touching(keys)
 }
-
-#[cfg(test)]
-mod tests {
-    use super::*;
-    use key_sets::{Kind, Parts};
-    use row_locks::{Grant, Holder};
-    use std::test::Fail;
-
-    fn parts_of(row: u8) -> Parts {
-        Parts {
-            table: [b't'; 16],
-            row: Some([row; 16]),
-        }
-    }
-
-    // Sessions 2 and 1 stand in the way, session 3 does not, and a unit is no victim.
-    #[test]
-    fn sessions_that_touch_are_victims(rt: HostRuntime) -> Result<(), Fail> {
-        let mut locks = LockTable::new(rt.alloc())?;
-        for (holder, row) in [
-            (Holder::Session(2), 1),
-            (Holder::Session(1), 2),
-            (Holder::Unit(5), 3),
-            (Holder::Session(3), 4),
-        ] {
-            let grant = locks.grant(holder, &parts_of(row), Kind::Update)?;
-            assert_eq!(rt; grant, Grant::Held);
-        }
-        let mut keys = KeySet::new(rt.alloc())?;
-        for row in [3, 2, 1] {
-            keys.add(&parts_of(row), Kind::Update)?;
-        }
-        assert_eq!(rt; victims(&locks, &keys)?.as_slice(), [1, 2].as_slice());
-        Ok(())
-    }
-}

@@ -11,3 +11,4 @@ pub mod OpenLemmas
 pub mod ScanLemmas
 pub mod HalvesLemmas
 pub mod WholeLemmas
+pub mod PutLemmas

@@ -5,3 +5,4 @@ pub mod Fold
 pub mod Roomy
 pub mod Extremes
 pub mod Whole
+pub mod Parts

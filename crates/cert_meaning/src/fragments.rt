@@ -8,7 +8,7 @@ ghost use Rattle.cert_meaning.specs.State.{last_seen_of, whole_keys, whole_ops};
 ghost use Rattle.cert_meaning.specs.Verdict.{greatest_touching};
 ghost use Rattle.cert_meaning.specs.Whole.{within};
 
-use crate::items::Fragment;
+use crate::items::{Fragment, FragmentList};
 use key_sets::{KeyFault, KeySet, touches};
 use row_model::{Op, OpList};
 use std::alloc::{AllocError, Global};
@@ -122,4 +122,22 @@ fn greater(greatest: Option<u64>, number: u64) -> Option<u64>
         Some(greatest) => Some(greatest.max(number)),
         None => Some(number),
     }
+}
+
+/// The same fragments.
+pub(crate) fn copied(alloc: Global, fragments: &[Fragment]) -> Result<FragmentList, NoMemory>
+    ensures { IfOk result (λ same. same ≡ fragments.now) }
+{
+    let mut same = FragmentList::new(alloc);
+    for fragment in fragments {
+        let keys = fragment.keys.copy()?;
+        let ops = fragment.ops.copy()?;
+        same.push(Fragment {
+            number: fragment.number,
+            last_seen: fragment.last_seen,
+            keys,
+            ops,
+        })?;
+    }
+    Ok(same)
 }

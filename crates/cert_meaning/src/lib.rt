@@ -6,6 +6,7 @@ mod items;
 mod judging;
 mod members;
 mod open_table;
+mod parts;
 mod row_table;
 mod search;
 mod sets;
@@ -14,7 +15,5 @@ mod state;
 pub use items::{CommitItem, CommitList, Fragment, FragmentList, JudgedList, Told};
 pub use judging::verdicts;
 pub use members::Standing;
+pub use parts::{MemberItem, MemberItemList, OpenItem, OpenList, StateParts};
 pub use state::FoldState;
-
-#[cfg(test)]
-mod tests;

@@ -4,6 +4,8 @@ ghost use Rattle.wsrep_base.specs.Trx.{least};
 ghost use Rattle.cert_meaning.specs.Extremes.{lesser};
 ghost use Rattle.cert_meaning.specs.Fold.{members_in, with_serial, floor_over};
 
+mod parts;
+
 use std::alloc::Global;
 use std::collections::BTreeMap;
 use std::marker::Model;

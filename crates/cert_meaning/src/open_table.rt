@@ -4,6 +4,8 @@ ghost use Rattle.cert_meaning.specs.State.{fragments_but};
 ghost use Rattle.cert_meaning.specs.Verdict.{greatest_touching};
 ghost use Rattle.cert_meaning.specs.Fold.{is_of};
 
+mod parts;
+
 use crate::fragments::greatest_touching;
 use crate::items::{Fragment, FragmentList};
 use key_sets::KeySet;
@@ -91,12 +93,12 @@ impl OpenTable {
     }
 
     /// The greatest fragment of another transaction whose keys touch.
-    pub(crate) fn held_by(&self, trx: TrxId, keys: &KeySet) -> Option<u64>
-        ensures { result ≡ greatest_touching (fragments_but self.now trx) keys.now }
+    pub(crate) fn held_by(&self, keys: &KeySet, other_than: TrxId) -> Option<u64>
+        ensures { result ≡ greatest_touching (fragments_but self.now other_than) keys.now }
     {
         let mut greatest = None;
         for (other, fragments) in &self.open {
-            if *other != trx {
+            if *other != other_than {
                 greatest = greatest_touching(greatest, fragments.as_slice(), keys);
             }
         }

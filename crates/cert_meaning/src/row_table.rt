@@ -2,6 +2,8 @@ ghost use Rattle.std.specs.Prelude.{◌≡◌, ◌≤◌, ◌+◌, length, OnOk}
 ghost use Rattle.finite_map.specs.FiniteMap as rows;
 ghost use Rattle.row_model.specs.Rows.{op_on, ops_on};
 
+mod parts;
+
 use row_model::{Op, Row, RowId, apply_op};
 use std::alloc::Global;
 use std::collections::HashMap;

@@ -5,6 +5,7 @@ ghost use Rattle.key_sets.specs.Keys.{touches};
 ghost use Rattle.cert_meaning.specs.Search.{commits_below, greatest_related};
 ghost use Rattle.cert_meaning.specs.Verdict.{held_by};
 
+mod parts;
 mod step;
 mod verdict;
 
@@ -25,7 +26,6 @@ pub struct FoldState {
     floor: u64,
     version: u32,
     members: Members,
-    // No call reads them yet; a snapshot for a node that joins will.
     rows: RowTable,
     commits: Vec<CommitItem>,
     open_trx: OpenTable,
@@ -93,10 +93,10 @@ impl FoldState {
 
     /// The greatest fragment of another open transaction whose keys touch.
     #[tactic(auto, unfolding(crate::specs::Verdict::held_by))]
-    pub fn held_by(&self, trx: TrxId, keys: &KeySet) -> Option<u64>
-        ensures { result ≡ held_by self.now trx keys.now }
+    pub fn held_by(&self, keys: &KeySet, other_than: TrxId) -> Option<u64>
+        ensures { result ≡ held_by self.now other_than keys.now }
     {
-        self.open_trx.held_by(trx, keys)
+        self.open_trx.held_by(keys, other_than)
     }
 
     fn alloc(&self) -> Global {

@@ -4,8 +4,6 @@
 
 mod keyed_ops;
 mod status;
-#[cfg(test)]
-mod tests;
 mod trx;
 
 pub use status::{Added, Outcome, Status};

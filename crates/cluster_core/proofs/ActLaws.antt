@@ -1,8 +1,10 @@
 -- What a step of one node does to the cluster, from what it does to the node's seat.
 use Rattle.std.proofs.Common.{◌≡◌, ℕ, zero, suc, ◌+◌, ◌-◌, Bool, true, false, cond, List, [], ◌∷◌, ◌++◌, length, None, Some, refl, sym, ap, subst, ◌∙◌, arith, append-nil, length-append, set, get_or, min, ◌≤◌, ◌<◌, Result, Ok, Err}
-use Rattle.std.specs.Prelude.{slice_get, map, IfOk, OnErr}
+use Rattle.std.specs.Prelude.{slice_get, map, IfOk, IfErr, IsErrAnd, OnErr, IsSome}
 use Rattle.std.specs.List.{AllByRecursion}
+use Rattle.std.proofs.lemmas.Option.{same_Some}
 use Rattle.finite_map.specs.FiniteMap.{get}
+use Rattle.row_model.specs.declared.calls.Call.{Call}
 use Rattle.order_event.specs.declared.event.Event.{Event}
 use Rattle.order_event.specs.declared.event.Message.{Message}
 use Rattle.order_event.specs.declared.event.Message.TheVariants as message
@@ -12,26 +14,37 @@ use Rattle.order_event.specs.declared.step.Answer.{Answer}
 use Rattle.order_event.specs.declared.step.Step.{Step}
 use Rattle.order_event.specs.declared.step.Answer.TheVariants as answer
 use Rattle.order_event.specs.Spelling.{HasFewMembers}
+use Rattle.group_order.specs.Causes as group_cause
+use Rattle.group_order.specs.declared.fault.GroupFault.{GroupFault}
+use Rattle.group_order.specs.declared.fault.GroupFault.TheVariants as group
 use Rattle.group_order.specs.Order.{event_at, event_of, start_order, up_to}
 use Rattle.node_meaning.specs.Node.{ModelNode, is_connected, start_node}
 use Rattle.node_meaning.specs.Steps.{first_sent, sent_out, take_event, take_step, node_step}
 use Rattle.node_meaning.specs.Cluster.{ModelCluster, set_at, order_first, with_node, step_of, step_at, cluster_step, orders_at, orders_of, node_orders, will_order, start_cluster}
-use Rattle.node_meaning.proofs.EntryLaws.{some_is}
 use Rattle.node_parts.specs.Queue.{oldest}
 use Rattle.node_core.specs.declared.node.Node.{Node}
 use Rattle.node_core.specs.Answers.{is_started}
+use Rattle.node_core.specs.Memory.{CallWants, TakeWants, CertifyWants, StartWants}
 use Rattle.node_core.specs.Stands.{DoneOver, plain_of, quietly}
 use Rattle.cluster_core.specs.declared.seat.Seat.{Seat}
 use Rattle.cluster_core.specs.Seated.{IsSeated, SeatDone, SeatDoes, SeatTakes, SeatUnchanged, work_of}
+use Rattle.cluster_core.specs.declared.fault.StepFault.{StepFault}
+use Rattle.cluster_core.specs.declared.fault.StepFault.TheVariants as fault
+use Rattle.cluster_core.specs.Faults.{step_fault}
 use Rattle.cluster_core.specs.Acts.{IsKept, AreKept, Goes, Acted, Failed, Left, Runs, cluster_of, nodes_of}
-use Rattle.cluster_core.specs.Steps.{LeftBy, after_acts}
+use Rattle.cluster_core.specs.Steps.{LeftBy, StoppedAt, WantedBy, Wants, WantsAt, AtNoMemory, after_acts, drain_acts_of}
 use Rattle.cluster_core.proofs.SeatLaws.{seated_grow}
 
 -- ---- lists
 pub set_at_same : {A : Type 0} (xs : List A) (i : ℕ) (x : A) → slice_get xs i ≡ Some x → set_at xs i x ≡ xs
 set_at_same [] i x there = refl
-set_at_same (y ∷ ys) zero x there = ap (λ z. z ∷ ys) (sym (some_is y x there))
+set_at_same (y ∷ ys) zero x there = ap (λ z. z ∷ ys) (sym (same_Some y x there))
 set_at_same (y ∷ ys) (suc i) x there = ap (λ zs. y ∷ zs) (set_at_same ys i x there)
+
+pub there_after : {A : Type 0} (xs : List A) (i : ℕ) (x y : A) → slice_get xs i ≡ Some x → slice_get (set_at xs i y) i ≡ Some y
+there_after [] i x y there = absurd cc
+there_after (z ∷ zs) zero x y there = refl
+there_after (z ∷ zs) (suc i) x y there = there_after zs i x y there
 
 all_append : {A : Type 0} (P : A → Type 0) (xs ys : List A) → AllByRecursion P xs → AllByRecursion P ys → AllByRecursion P (xs ++ ys)
 all_append P [] ys here there = there
@@ -39,8 +52,21 @@ all_append P (x ∷ xs) ys here there = (here.0, all_append P xs ys here.1 there
 
 pub all_at : {A : Type 0} (P : A → Type 0) (xs : List A) (i : ℕ) (x : A) → AllByRecursion P xs → slice_get xs i ≡ Some x → P x
 all_at P [] i x all there = absurd cc
-all_at P (y ∷ ys) zero x all there = subst P (some_is y x there) all.0
+all_at P (y ∷ ys) zero x all there = subst P (same_Some y x there) all.0
 all_at P (y ∷ ys) (suc i) x all there = all_at P ys i x all.1 there
+
+-- ---- want of memory
+pub at_map : (P Q : Type 0) (e : StepFault) → (P → Q) → AtNoMemory P e → AtNoMemory Q e
+at_map P Q fault.Group f p = tt
+at_map P Q fault.NoMemory f p = f p
+
+pub at_any : (P : Type 0) (e : StepFault) → P → AtNoMemory P e
+at_any P fault.Group p = tt
+at_any P fault.NoMemory p = p
+
+some_waits : (queue : List Message) (m : Message) → oldest queue ≡ Some m → 0 < length queue
+some_waits [] m some = absurd cc
+some_waits (q ∷ qs) m some = omega arith
 
 few_of : (member : ℕ) (m : Message) → HasFewMembers (event_of member m)
 few_of member (message.Write body) = tt
@@ -78,13 +104,33 @@ module _ (a : Act) (order : List Event) (old : Seat) (kept : IsKept order old) w
     goes = goes_same order order old refl kept;
   }
 
-  pub failed_alone : (new : Seat) → SeatUnchanged old new
-      → ((order ≡ order) × (plain_of new.node ≡ plain_of old.node) → Left a order order (plain_of old.node) (plain_of new.node))
-      → Failed a order order old new
-  failed_alone new u left = record {
-    left = left (refl, u.plain);
+  pub failed_alone : (new : Seat) → SeatUnchanged old new → Wants order (plain_of old.node) a
+      → ((a ≡ a) × (order ≡ order) × (plain_of new.node ≡ plain_of old.node) → Left a order order (plain_of old.node) (plain_of new.node) a)
+      → Failed a order order old new fault.NoMemory
+  failed_alone new u wants left = record {
+    next = a;
+    left = left (refl, refl, u.plain);
+    wants = subst (λ n. Wants order n a) (sym u.plain) wants;
     goes = goes_same order order new refl (record { few = kept.few; seated = u.seated order kept.seated });
   }
+
+  failed_by : (new : Seat) → SeatUnchanged old new → Wants order (plain_of old.node) a
+      → ((a ≡ a) × (order ≡ order) × (plain_of new.node ≡ plain_of old.node) → Left a order order (plain_of old.node) (plain_of new.node) a)
+      → (b : Act) → b ≡ a → (e : StepFault) → e ≡ fault.NoMemory → Failed b order order old new e
+  failed_by new u wants left b same e none =
+      subst (λ x. Failed x order order old new e) (sym same)
+      (subst (Failed a order order old new) (sym none) (failed_alone new u wants left))
+
+module _ (order : List Event) (old : Seat) (kept : IsKept order old) (new : Seat) (u : SeatUnchanged old new) (b : Act) (e : StepFault) (none : e ≡ fault.NoMemory) where
+  pub client_failed : (session : ℕ) (call : Call) → b ≡ act.Client session call → CallWants (plain_of old.node) session call → Failed b order order old new e
+  client_failed session call same wants = failed_by (act.Client session call) order old kept new u wants (λ h. h) b same e none
+
+  pub certify_failed : b ≡ act.Certify → CertifyWants (plain_of old.node) → Failed b order order old new e
+  certify_failed same wants = failed_by act.Certify order old kept new u wants (λ h. h) b same e none
+
+  pub start_failed : (number : ℕ) → b ≡ act.Start number → ((o : List Event) → IsSeated o old → StartWants o (plain_of old.node) number)
+      → Failed b order order old new e
+  start_failed number same wants = failed_by (act.Start number) order old kept new u (wants order kept.seated) (λ h. h) b same e none
 
 -- ---- ordering
 none_first : (order : List Event) (nodes : List ModelNode) (i : ℕ) (n : ModelNode) (queue : List Message) → oldest queue ≡ None
@@ -108,7 +154,7 @@ some_first : (before now : List Event) (nodes : List ModelNode) (i number : ℕ)
     → (answer.Ordered number, cluster_of now (set_at nodes i after)) ≡ order_first (cluster_of before nodes) i n queue
 some_first before now nodes i number n after m [] first is counts sent = absurd cc
 some_first before now nodes i number n after m (x ∷ xs) first is counts sent =
-    let order : now ≡ before ++ event_of n.at.member x ∷ [] = is ∙ ap (λ k. before ++ event_of n.at.member k ∷ []) (sym (some_is x m first)) in
+    let order : now ≡ before ++ event_of n.at.member x ∷ [] = is ∙ ap (λ k. before ++ event_of n.at.member k ∷ []) (sym (same_Some x m first)) in
     let long : number ≡ length before + 1 = counts ∙ ap length order ∙ length-append before (event_of n.at.member x ∷ []) in
     ap (λ k. (answer.Ordered k, cluster_of now (set_at nodes i after))) long
     ∙ ap (λ o. (answer.Ordered (length before + 1), cluster_of o (set_at nodes i after))) order
@@ -163,13 +209,63 @@ take_idle order n none =
     no_choice (is_connected n.at.phase) (answer.Nothing, n)
     ∙ ap (λ o. cond (is_connected n.at.phase) (take_event n o) (answer.Nothing, n)) (sym none)
 
-pub take_nothing : (before now : List Event) (old : Seat) → now ≡ before → None ≡ event_at before (old.node.at.taken + 1) → IsKept before old
-    → Acted act.Take before now old old answer.Nothing
-take_nothing before now old is none kept = record {
+take_away : (order : List Event) (n : ModelNode) → is_connected n.at.phase ≡ false → (answer.Nothing, n) ≡ take_step order n
+unfolding take_step
+take_away order n away = ap (λ b. cond b (take_event n (slice_get order n.at.taken)) (answer.Nothing, n)) (sym away)
+
+takes_nothing : (before now : List Event) (old : Seat) → now ≡ before → (answer.Nothing, plain_of old.node) ≡ take_step before (plain_of old.node)
+    → IsKept before old → Acted act.Take before now old old answer.Nothing
+takes_nothing before now old is nothing kept = record {
   same = λ nodes i at.
       ap (λ o. (answer.Nothing, cluster_of o (set_at nodes i (plain_of old.node)))) is
-      ∙ ap (λ (r : Answer × ModelNode). (r.0, cluster_of before (set_at nodes i r.1)))
-      (take_idle before (plain_of old.node) (sym (none ∙ next_event before old.node.at.taken)));
+      ∙ ap (λ (r : Answer × ModelNode). (r.0, cluster_of before (set_at nodes i r.1))) nothing;
+  goes = goes_same before now old is kept;
+}
+
+pub take_nothing : (before now : List Event) (old : Seat) → now ≡ before → None ≡ event_at before (old.node.at.taken + 1) → IsKept before old
+    → Acted act.Take before now old old answer.Nothing
+take_nothing before now old is none kept =
+    takes_nothing before now old is (take_idle before (plain_of old.node) (sym (none ∙ next_event before old.node.at.taken))) kept
+
+pub take_not_connected : (order : List Event) (old : Seat) → is_connected old.node.at.phase ≡ false → IsKept order old
+    → Acted act.Take order order old old answer.Nothing
+take_not_connected order old away kept = takes_nothing order order old refl (take_away order (plain_of old.node) away) kept
+
+-- an event that is there is behind those that were taken
+slice_within : {A : Type 0} (xs : List A) (i : ℕ) → IsSome (slice_get xs i) → i < length xs
+slice_within [] i some = cc
+slice_within (x ∷ xs) zero some = omega arith
+slice_within (x ∷ xs) (suc i) some = omega (arith, slice_within xs i some)
+
+pub take_failed : (before now : List Event) (old new : Seat) (e : StepFault) → now ≡ before → SeatUnchanged old new → IsKept before old
+    → AtNoMemory (TakeWants (plain_of old.node) × IsSome (event_at before (old.node.at.taken + 1))) e → Failed act.Take before now old new e
+take_failed before now old new e is u kept wants = record {
+  next = act.Take;
+  left = (refl, is, u.plain);
+  wants = at_map (TakeWants (plain_of old.node) × IsSome (event_at before (old.node.at.taken + 1))) (Wants now (plain_of new.node) act.Take) e (λ h.
+      subst (λ o. Wants o (plain_of new.node) act.Take) (sym is)
+      (subst (λ n. Wants before n act.Take) (sym u.plain)
+      (h.0, slice_within before old.node.at.taken (subst IsSome (next_event before old.node.at.taken) h.1)))) wants;
+  goes = goes_same before now new is (record { few = kept.few; seated = u.seated before kept.seated });
+}
+
+-- the group gave no event
+pub event_failed : (before now : List Event) (old : Seat) (given : GroupFault) → now ≡ before → IsKept before old → is_connected old.node.at.phase ≡ true
+    → group_cause.AtNoMemory (IsSome (event_at before (old.node.at.taken + 1))) given → Failed act.Take before now old old (step_fault given)
+event_failed before now old given is kept connected wants =
+    take_failed before now old old (step_fault given) is (record { plain = refl; seated = λ order s. s }) kept (by_fault given wants)
+  where
+    by_fault : (g : GroupFault) → group_cause.AtNoMemory (IsSome (event_at before (old.node.at.taken + 1))) g
+        → AtNoMemory (TakeWants (plain_of old.node) × IsSome (event_at before (old.node.at.taken + 1))) (step_fault g)
+    by_fault group.Failed h = tt
+    by_fault group.NoMemory h = (connected, h)
+
+pub order_failed : (before now : List Event) (old : Seat) (e : StepFault) (m : Message) → now ≡ before → IsKept before old
+    → oldest old.node.queue.outbox ≡ Some m → Failed act.Order before now old old e
+order_failed before now old e m is kept some = record {
+  next = act.Order;
+  left = (refl, is, refl);
+  wants = at_any (0 < length old.node.queue.outbox) e (some_waits old.node.queue.outbox m some);
   goes = goes_same before now old is kept;
 }
 
@@ -206,16 +302,9 @@ pub few_at_start : (nodes : ℕ) → nodes ≤ 9 → AllByRecursion HasFewMember
 few_at_start nodes small = (omega (arith, small, length-up_to nodes), tt)
 
 -- ---- no step at all
-pub runs_none : (order : List Event) (n : ModelNode) → Runs order order n n
+pub runs_none : (order : List Event) (n : ModelNode) → Runs [] order order n n
 unfolding after_acts
-runs_none order n = record {
-  acts = [];
-  parts = tt;
-  is = λ nodes node there. ap (cluster_of order) (set_at_same nodes (node - 1) n there);
-}
-
-pub drain_failed : (order : List Event) (seat : Seat) → IsKept order seat → Failed act.Drain order order seat seat
-drain_failed order seat kept = record { left = runs_none order (plain_of seat.node); goes = goes_same order order seat refl kept }
+runs_none order n = record { is = λ nodes node there. ap (cluster_of order) (set_at_same nodes (node - 1) n there) }
 
 -- ---- one seat among others
 pub set_nodes : (seats : List Seat) (i : ℕ) (seat : Seat) → nodes_of (set seats i seat) ≡ set_at (nodes_of seats) i (plain_of seat.node)
@@ -225,7 +314,7 @@ set_nodes (s ∷ ss) (suc i) seat = ap (λ ns. plain_of s.node ∷ ns) (set_node
 
 pub at_nodes : (seats : List Seat) (i : ℕ) (seat : Seat) → slice_get seats i ≡ Some seat → slice_get (nodes_of seats) i ≡ Some (plain_of seat.node)
 at_nodes [] i seat there = absurd cc
-at_nodes (s ∷ ss) zero seat there = ap (λ (x : Seat). Some (plain_of x.node)) (some_is s seat there)
+at_nodes (s ∷ ss) zero seat there = ap (λ (x : Seat). Some (plain_of x.node)) (same_Some s seat there)
 at_nodes (s ∷ ss) (suc i) seat there = at_nodes ss i seat there
 
 all_grow : (before now more : List Event) (seats : List Seat) → now ≡ before ++ more → AllByRecursion (IsSeated before) seats → AllByRecursion (IsSeated now) seats
@@ -252,21 +341,16 @@ left_same node before now nodes old new there left =
     ∙ ap (cluster_of before) (set_at_same nodes (node - 1) old there)
 
 -- what a step that was not done left
-left_by : (a : Act) (node : ℕ) (before now : List Event) (nodes : List ModelNode) (old new : ModelNode) → slice_get nodes (node - 1) ≡ Some old
-    → Left a before now old new → LeftBy a node (cluster_of before nodes) (cluster_of now (set_at nodes (node - 1) new))
-left_by act.Drain node before now nodes old new there left = record { acts = left.acts; parts = left.parts; is = left.is nodes node there }
-left_by act.Order node before now nodes old new there left = left_same node before now nodes old new there left
-left_by act.Take node before now nodes old new there left = left_same node before now nodes old new there left
-left_by act.Certify node before now nodes old new there left = left_same node before now nodes old new there left
-left_by (act.Start number) node before now nodes old new there left = left_same node before now nodes old new there left
-left_by (act.Finish number) node before now nodes old new there left = left_same node before now nodes old new there left
-left_by act.Advance node before now nodes old new there left = left_same node before now nodes old new there left
-left_by (act.Client session call) node before now nodes old new there left = left_same node before now nodes old new there left
-left_by act.Report node before now nodes old new there left = left_same node before now nodes old new there left
-left_by act.Status node before now nodes old new there left = left_same node before now nodes old new there left
-left_by act.Leave node before now nodes old new there left = left_same node before now nodes old new there left
-left_by (act.Join fresh) node before now nodes old new there left = left_same node before now nodes old new there left
-left_by (act.Transfer donor) node before now nodes old new there left = left_same node before now nodes old new there left
+stopped_by : (a : Act) (node : ℕ) (before now : List Event) (nodes : List ModelNode) (old new : ModelNode) (next : Act)
+    → slice_get nodes (node - 1) ≡ Some old → Left a before now old new next
+    → StoppedAt a node (cluster_of before nodes) (cluster_of now (set_at nodes (node - 1) new)) next
+stopped_by act.Drain node before now nodes old new next there stops = record {
+  done = stops.done;
+  rest = stops.rest;
+  front = ap (drain_acts_of before) there ∙ stops.front;
+  is = stops.ran.is nodes node there;
+}
+stopped_by a node before now nodes old new next there left = (left.0, left_same node before now nodes old new there (left.1, left.2))
 
 module _ (a : Act) (before now : List Event) (seats : List Seat) (i : ℕ) (old new : Seat) (there : slice_get seats i ≡ Some old) where
   pub step_done : (x : Answer) → Acted a before now old new x
@@ -276,26 +360,54 @@ module _ (a : Act) (before now : List Event) (seats : List Seat) (i : ℕ) (old 
       ∙ acted.same (nodes_of seats) i (at_nodes seats i old there)
       ∙ ap (λ o. step_at (cluster_of before (nodes_of seats)) i o a) (sym (at_nodes seats i old there))
 
-  pub step_failed : Failed a before now old new
-      → LeftBy a (i + 1) (cluster_of before (nodes_of seats)) (cluster_of now (nodes_of (set seats i new)))
-  step_failed failed =
-      let e : (i + 1) - 1 ≡ i = omega arith in
-      subst (λ ns. LeftBy a (i + 1) (cluster_of before (nodes_of seats)) (cluster_of now ns)) (sym (set_nodes seats i new))
-      (subst (λ k. LeftBy a (i + 1) (cluster_of before (nodes_of seats)) (cluster_of now (set_at (nodes_of seats) k (plain_of new.node)))) e
-      (left_by a (i + 1) before now (nodes_of seats) (plain_of old.node) (plain_of new.node)
-      (ap (slice_get (nodes_of seats)) e ∙ at_nodes seats i old there) failed.left))
+  -- over the nodes of the seats
+  module _ (e : StepFault) (failed : Failed a before now old new e) where
+    stopped : StoppedAt a (i + 1) (cluster_of before (nodes_of seats)) (cluster_of now (nodes_of (set seats i new))) failed.next
+    stopped =
+        let same : (i + 1) - 1 ≡ i = omega arith in
+        subst (λ ns. StoppedAt a (i + 1) (cluster_of before (nodes_of seats)) (cluster_of now ns) failed.next) (sym (set_nodes seats i new))
+        (subst (λ k. StoppedAt a (i + 1) (cluster_of before (nodes_of seats)) (cluster_of now (set_at (nodes_of seats) k (plain_of new.node))) failed.next) same
+        (stopped_by a (i + 1) before now (nodes_of seats) (plain_of old.node) (plain_of new.node) failed.next
+        (ap (slice_get (nodes_of seats)) same ∙ at_nodes seats i old there) failed.left))
+
+    pub step_failed : LeftBy a (i + 1) (cluster_of before (nodes_of seats)) (cluster_of now (nodes_of (set seats i new)))
+    step_failed = (failed.next, stopped)
+
+    node_is : slice_get (nodes_of (set seats i new)) ((i + 1) - 1) ≡ Some (plain_of new.node)
+    node_is =
+        let same : (i + 1) - 1 ≡ i = omega arith in
+        ap (slice_get (nodes_of (set seats i new))) same
+        ∙ ap (λ ns. slice_get ns i) (set_nodes seats i new)
+        ∙ there_after (nodes_of seats) i (plain_of old.node) (plain_of new.node) (at_nodes seats i old there)
+
+    pub step_wanted : AtNoMemory (WantedBy a (i + 1) (cluster_of before (nodes_of seats)) (cluster_of now (nodes_of (set seats i new)))) e
+    step_wanted =
+        at_map (Wants now (plain_of new.node) failed.next)
+        (WantedBy a (i + 1) (cluster_of before (nodes_of seats)) (cluster_of now (nodes_of (set seats i new)))) e (λ wants. (failed.next, stopped, subst (λ o. WantsAt now o failed.next) (sym node_is) wants)) failed.wants
 
 -- ---- answers
 pub if_ok : {A E : Type 0} (P Q : A → Type 0) (r : Result A E) → ((x : A) → P x → Q x) → IfOk r P → IfOk r Q
 if_ok P Q (Ok x) f p = f x p
 if_ok P Q (Err e) f p = tt
 
-pub if_err : {A E : Type 0} (P Q : Type 0) (r : Result A E) → (P → Q) → OnErr r P → OnErr r Q
+pub if_err : {A E : Type 0} (P Q : E → Type 0) (r : Result A E) → ((e : E) → P e → Q e) → IfErr r P → IfErr r Q
 if_err P Q (Ok x) f p = tt
-if_err P Q (Err e) f p = f p
+if_err P Q (Err e) f p = f e p
 
-pub goes_by : {A E : Type 0} (a : Act) (before now : List Event) (old new : Seat) (P : A → Type 0) (r : Result A E)
-    → ((x : A) → P x → Goes before now new) → IfOk r P → OnErr r (Failed a before now old new) → Goes before now new
+pub on_err : {A E : Type 0} (P : E → Type 0) (Q : Type 0) (r : Result A E) → ((e : E) → P e → Q) → IfErr r P → OnErr r Q
+on_err P Q (Ok x) f p = tt
+on_err P Q (Err e) f p = f e p
+
+pub err_by : {A E : Type 0} (P Q : E → Type 0) (r : Result A E) → IsErrAnd r P → ((e : E) → P e → Q e) → IfErr r Q
+err_by P Q (Ok x) h f = tt
+err_by P Q (Err e) h f = f e h
+
+pub err_any : {A E : Type 0} (P : E → Type 0) (r : Result A E) → ((e : E) → P e) → IfErr r P
+err_any P (Ok x) f = tt
+err_any P (Err e) f = f e
+
+pub goes_by : {A : Type 0} (a : Act) (before now : List Event) (old new : Seat) (P : A → Type 0) (r : Result A StepFault)
+    → ((x : A) → P x → Goes before now new) → IfOk r P → IfErr r (Failed a before now old new) → Goes before now new
 goes_by a before now old new P (Ok x) f ok err = f x ok
 goes_by a before now old new P (Err e) f ok err = err.goes
 
@@ -312,6 +424,20 @@ unfolding cluster_step
 cluster_done c d at step r same is e =
     e ∙ ap (λ (k : ModelCluster). step_at k at (slice_get k.nodes at) step.act) same
     ∙ ap (λ i. step_at d i (slice_get d.nodes i) step.act) is
+
+-- and where it was not done, of the node with its number
+module _ {A : Type 0} (c d m : ModelCluster) (at : ℕ) (step : Step) (r : Result A StepFault) (same : c ≡ d) (is : at ≡ step.node - 1) (first : 1 ≤ step.node) where
+  numbered : at + 1 ≡ step.node
+  numbered = omega (arith, is, first)
+
+  pub cluster_failed : OnErr r (LeftBy step.act (at + 1) c m) → OnErr r (LeftBy step.act step.node d m)
+  cluster_failed left =
+      subst (λ k. OnErr r (LeftBy step.act k d m)) numbered (subst (λ k. OnErr r (LeftBy step.act (at + 1) k m)) same left)
+
+  pub cluster_wanted : IfErr r (AtNoMemory (WantedBy step.act (at + 1) c m)) → IfErr r (AtNoMemory (WantedBy step.act step.node d m))
+  cluster_wanted wanted =
+      subst (λ k. IfErr r (AtNoMemory (WantedBy step.act k d m))) numbered
+      (subst (λ k. IfErr r (AtNoMemory (WantedBy step.act (at + 1) k m))) same wanted)
 
 pub first_counts : (queue : List Message) → min (length queue) 1 ≡ orders_of queue
 first_counts [] = omega arith

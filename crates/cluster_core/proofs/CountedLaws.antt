@@ -1,181 +1,237 @@
--- What a step does to the numbers that the nodes of a cluster gave out, also where it could not be done.
-use Rattle.std.proofs.Common.{◌≡◌, ℕ, zero, suc, ◌+◌, ◌-◌, ◌<◌, ◌^◌, Bool, true, false, cond, List, [], ◌∷◌, length, Option, None, Some, Result, Ok, Err, refl, ap, sym, subst, ◌∙◌, arith}
-use Rattle.std.specs.Prelude.{◌≢◌, slice_get, map, option_and_then, IsTrue, IfSome, IfOk, OnErr}
-use Rattle.std.specs.List.{AllByRecursion}
+-- How much a cluster has given out after a step.
+use Rattle.std.proofs.Common.{◌≡◌, ℕ, zero, suc, ◌+◌, ◌-◌, ◌≤◌, ◌<◌, ◌^◌, List, [], ◌∷◌, ◌++◌, length, Bool, true, false, cond, None, Some, refl, sym, ap, subst, ◌∙◌, arith, Option, Result, Ok, Err, length-append}
+use Rattle.std.specs.Prelude.{◌≢◌, slice_get, map, replicate, option_and_then, IfOk, IfSome, OnErr, OnOk, IsTrue}
 use Rattle.std.specs.Str.{bytes_eq}
 use Rattle.uuid.specs.Text.{parsed}
 use Rattle.wsrep_base.specs.StateId.{id_of, nil_id, not_nil}
+use Rattle.std.specs.List.{AllByRecursion}
+use Rattle.std.proofs.lemmas.List.{length-map}
+use Rattle.std.specs.Ordering.{nat_cmp}
+use Rattle.std.proofs.lemmas.Option.{same_Some}
+use Rattle.finite_map.specs.FiniteMap.{len, len-empty}
+use Rattle.client_trx.specs.Live.{Live}
+use Rattle.order_event.specs.declared.event.Event.{Event}
 use Rattle.order_event.specs.declared.event.Message.{Message}
 use Rattle.order_event.specs.declared.step.Act.{Act}
 use Rattle.order_event.specs.declared.step.Act.TheVariants as act
 use Rattle.order_event.specs.declared.step.Answer.{Answer}
 use Rattle.order_event.specs.declared.step.Step.{Step}
-use Rattle.group_order.specs.Order.{up_to}
+use Rattle.group_order.specs.Order.{event_of, up_to}
 use Rattle.group_order.specs.Causes.{HasCause}
 use Rattle.group_order.specs.declared.fault.GroupFault.{GroupFault}
 use Rattle.group_order.specs.declared.fault.GroupFault.TheVariants as group
 use Rattle.node_meaning.specs.Node.{ModelNode, start_node}
-use Rattle.node_meaning.specs.Steps.{sent_out}
-use Rattle.node_meaning.specs.Cluster.{ModelCluster, set_at, order_first, step_of, step_at, cluster_step}
-use Rattle.node_meaning.proofs.CountLaws.{Grows, sent_out_grows, take_grows, certify_grows, start_grows, finish_grows, advance_grows, cluster_grows}
-use Rattle.node_meaning.proofs.EntryLaws.{some_is}
-use Rattle.cluster_core.specs.State.{CanGoOn, AllCanGoOn}
-use Rattle.cluster_core.specs.Steps.{is_part, after_acts, LeftBy}
-use Rattle.cluster_core.specs.Counted.{IsWithin, IsCounted}
+use Rattle.node_meaning.specs.Steps.{sent_out, first_sent, commit_next, all_taken, all_certified}
+use Rattle.node_meaning.specs.Cluster.{ModelCluster, start_cluster, set_at, order_first, step_of, step_at, cluster_step, will_order}
+use Rattle.node_laws.specs.Sizes.{node_size, sizes, cluster_size}
+use Rattle.node_laws.proofs.Counts.{Grows}
+use Rattle.node_laws.proofs.StepCounts.{sent_out_grows, take_grows, certify_grows, start_grows, finish_grows, advance_grows}
+use Rattle.node_laws.proofs.ClusterLaws.{cluster_grows, sizes-set, set_count, start_sizes}
+use Rattle.cluster_core.specs.State.{CanGoOn}
+use Rattle.cluster_core.specs.Steps.{after_acts, all_sent, commit_acts, certified_acts, taken_acts, sent_acts, drain_acts, drain_acts_of, StoppedAt, LeftBy}
+use Rattle.cluster_core.specs.Counted.{node_given, nodes_given, given, IsCounted}
 use Rattle.cluster_core.proofs.ActLaws.{length-up_to}
 
--- ---- the nodes stay
-set_count : {A : Type 0} (xs : List A) (i : ℕ) (a : A) → length (set_at xs i a) ≡ length xs
-set_count [] i a = refl
-set_count (x ∷ xs) zero a = refl
-set_count (x ∷ xs) (suc i) a = ap suc (set_count xs i a)
+-- ---- the greatest of all nodes
+given_at_most : (most : ℕ) (nodes : List ModelNode) → ((i : ℕ) (n : ModelNode) → slice_get nodes i ≡ Some n → node_given n ≤ most) → nodes_given nodes ≤ most
+given_at_most most [] each = omega arith
+given_at_most most (x ∷ xs) each = omega (arith, each 0 x refl, given_at_most most xs (λ i n there. each (suc i) n there))
 
-first_count : (c : ModelCluster) (i : ℕ) (n : ModelNode) (queue : List Message) → length (order_first c i n queue).1.nodes ≡ length c.nodes
-first_count c i n [] = refl
-first_count c i n (m ∷ ms) = set_count c.nodes i (sent_out n)
+node_at_most : (nodes : List ModelNode) (i : ℕ) (n : ModelNode) → slice_get nodes i ≡ Some n → node_given n ≤ nodes_given nodes
+node_at_most [] i n there = cc
+node_at_most (x ∷ xs) zero n there = let same : node_given x ≡ node_given n = ap node_given (same_Some x n there) in omega (arith, same)
+node_at_most (x ∷ xs) (suc i) n there = omega (arith, node_at_most xs i n there)
 
-act_count : (c : ModelCluster) (i : ℕ) (n : ModelNode) (a : Act) → length (step_of c i n a).1.nodes ≡ length c.nodes
-act_count c i n (act.Client session call) = set_count c.nodes i _
-act_count c i n act.Order = first_count c i n n.outbox
-act_count c i n act.Take = set_count c.nodes i _
-act_count c i n act.Certify = set_count c.nodes i _
-act_count c i n (act.Start number) = set_count c.nodes i _
-act_count c i n (act.Finish number) = set_count c.nodes i _
-act_count c i n act.Advance = set_count c.nodes i _
-act_count c i n act.Drain = set_count c.nodes i _
-act_count c i n act.Report = refl
-act_count c i n act.Status = refl
-act_count c i n act.Leave = refl
-act_count c i n (act.Join fresh) = refl
-act_count c i n (act.Transfer donor) = refl
+grown : (k : ℕ) (n m : ModelNode) → Grows k n m → node_given m ≤ node_given n + k
+grown k n m grows = omega (arith, grows.serial, grows.begin)
 
-at_count : (c : ModelCluster) (i : ℕ) (o : Option ModelNode) (a : Act) → length (step_at c i o a).1.nodes ≡ length c.nodes
-at_count c i None a = refl
-at_count c i (Some n) a = act_count c i n a
+-- what a step needs
+pub node_goes_on : (c : ModelCluster) → given c < 2 ^ 63 → (i : ℕ) (n : ModelNode) → slice_get c.nodes i ≡ Some n → CanGoOn n
+unfolding given
+node_goes_on c small i n there =
+    let most = node_at_most c.nodes i n there in
+    record { serial = omega (arith, most, small); begin = omega (arith, most, small) }
 
-step_count : (c : ModelCluster) (step : Step) → length (cluster_step c step).1.nodes ≡ length c.nodes
-unfolding cluster_step
-step_count c step = at_count c (step.node - 1) (slice_get c.nodes (step.node - 1)) step.act
+-- ---- a step that was done
+step_given : (c : ModelCluster) (step : Step) → given (cluster_step c step).1 ≤ given c + 1
+unfolding given
+step_given c step =
+    let grows = cluster_grows c step in
+    let nodes : nodes_given (cluster_step c step).1.nodes ≤ nodes_given c.nodes + 1 =
+    given_at_most (nodes_given c.nodes + 1) (cluster_step c step).1.nodes (λ i n there.
+    let from = grows.each i n there in
+    omega (arith, grown 1 from.old n from.grows, node_at_most c.nodes i from.old from.there)) in
+    omega (arith, grows.size, nodes)
 
--- ---- the parts of a drain give out no number
-set_within : (most : ℕ) (nodes : List ModelNode) (i : ℕ) (n m : ModelNode) → slice_get nodes i ≡ Some n → Grows 0 n m
-    → AllByRecursion (IsWithin most) nodes → AllByRecursion (IsWithin most) (set_at nodes i m)
-set_within most [] i n m there grows all = tt
-set_within most (x ∷ xs) zero n m there grows all =
-    let same : x ≡ n = some_is x n there in
-    let here : IsWithin most n = subst (IsWithin most) same all.0 in
-    ((omega (arith, grows.serial, here.0), omega (arith, grows.begin, here.1)), all.1)
-set_within most (x ∷ xs) (suc i) n m there grows all = (all.0, set_within most xs i n m there grows all.1)
+-- ---- the parts of a drain give out nothing
+is_part : Act → Bool
+is_part act.Order = true
+is_part act.Take = true
+is_part act.Certify = true
+is_part (act.Start number) = true
+is_part (act.Finish number) = true
+is_part act.Advance = true
+is_part other = false
 
-module _ (most : ℕ) (c : ModelCluster) (i : ℕ) (n : ModelNode) (there : slice_get c.nodes i ≡ Some n) (all : AllByRecursion (IsWithin most) c.nodes) where
-  first_within : (queue : List Message) → AllByRecursion (IsWithin most) (order_first c i n queue).1.nodes
-  first_within [] = all
-  first_within (m ∷ ms) = set_within most c.nodes i n (sent_out n) there (sent_out_grows n) all
+record Stays (c d : ModelCluster) : Type 0 where
+  nodes : length d.nodes ≡ length c.nodes
+  given : given d ≤ given c
 
-  part_within : (a : Act) → IsTrue (is_part a) → AllByRecursion (IsWithin most) (step_of c i n a).1.nodes
-  part_within act.Order part = first_within n.outbox
-  part_within act.Take part = set_within most c.nodes i n _ there (take_grows c.order n) all
-  part_within act.Certify part = set_within most c.nodes i n _ there (certify_grows c.order n) all
-  part_within (act.Start number) part = set_within most c.nodes i n _ there (start_grows c.order n number) all
-  part_within (act.Finish number) part = set_within most c.nodes i n _ there (finish_grows n number) all
-  part_within act.Advance part = set_within most c.nodes i n _ there (advance_grows c.order n) all
-  part_within (act.Client session call) part = absurd cc
-  part_within act.Report part = absurd cc
-  part_within act.Status part = absurd cc
-  part_within act.Drain part = absurd cc
-  part_within act.Leave part = absurd cc
-  part_within (act.Join fresh) part = absurd cc
-  part_within (act.Transfer donor) part = absurd cc
+set_given : (nodes : List ModelNode) (i : ℕ) (n m : ModelNode) → slice_get nodes i ≡ Some n → Grows 0 n m → nodes_given (set_at nodes i m) ≤ nodes_given nodes
+set_given [] i n m there grows = omega arith
+set_given (x ∷ xs) zero n m there grows =
+    let same : node_given x ≡ node_given n = ap node_given (same_Some x n there) in omega (arith, same, grown 0 n m grows)
+set_given (x ∷ xs) (suc i) n m there grows = omega (arith, set_given xs i n m there grows)
 
-part_at : (most : ℕ) (c : ModelCluster) (i : ℕ) (o : Option ModelNode) (a : Act) → slice_get c.nodes i ≡ o → IsTrue (is_part a)
-    → AllByRecursion (IsWithin most) c.nodes → AllByRecursion (IsWithin most) (step_at c i o a).1.nodes
-part_at most c i None a there part all = all
-part_at most c i (Some n) a there part all = part_within most c i n there all a part
+module _ (c : ModelCluster) (i : ℕ) (n : ModelNode) (there : slice_get c.nodes i ≡ Some n) where
+  node_stays : (m : ModelNode) → Grows 0 n m → Stays c (record c { nodes = set_at c.nodes i m })
+  unfolding given
+  node_stays m grows = record {
+    nodes = set_count c.nodes i m;
+    given = omega (arith, sizes-set c.nodes i n m there, grows.size, set_given c.nodes i n m there grows);
+  }
 
-part_counted : (most nodes : ℕ) (c : ModelCluster) (node : ℕ) (a : Act) → IsTrue (is_part a) → IsCounted most nodes c
-    → IsCounted most nodes (cluster_step c (record { node = node; act = a })).1
-unfolding cluster_step
-part_counted most nodes c node a part counted = record {
-  count = at_count c (node - 1) (slice_get c.nodes (node - 1)) a ∙ counted.count;
-  within = part_at most c (node - 1) (slice_get c.nodes (node - 1)) a refl part counted.within;
-}
+  order_stays : (queue : List Message) → n.outbox ≡ queue → Stays c (order_first c i n queue).1
+  unfolding given
+  order_stays [] is = record { nodes = refl; given = omega arith }
+  order_stays (m ∷ ms) is =
+      let long = length-append c.order (event_of n.at.member m ∷ []) in
+      let fewer : node_size (sent_out n) + 1 ≡ node_size n =
+      ap (λ (queue : List Message). node_size (first_sent n queue) + 1) is
+      ∙ (let e : length ms + len n.live + 1 ≡ length (m ∷ ms) + len n.live = omega arith in e)
+      ∙ ap (λ (queue : List Message). length queue + len n.live) (sym is) in
+      record {
+        nodes = set_count c.nodes i (sent_out n);
+        given = omega (arith, long, fewer, sizes-set c.nodes i n (sent_out n) there, set_given c.nodes i n (sent_out n) there (sent_out_grows c.order n));
+      }
 
-parts_counted : (most nodes : ℕ) (c : ModelCluster) (node : ℕ) (acts : List Act) → AllByRecursion (λ a. IsTrue (is_part a)) acts → IsCounted most nodes c
-    → IsCounted most nodes (after_acts c node acts)
-unfolding after_acts
-parts_counted most nodes c node [] parts counted = counted
-parts_counted most nodes c node (a ∷ acts) parts counted =
-    parts_counted most nodes (cluster_step c (record { node = node; act = a })).1 node acts parts.1
-    (part_counted most nodes c node a parts.0 counted)
+  part_stays : (a : Act) → IsTrue (is_part a) → Stays c (step_of c i n a).1
+  unfolding is_part
+  part_stays act.Order part = order_stays n.outbox refl
+  part_stays act.Take part = node_stays _ (take_grows c.order n)
+  part_stays act.Certify part = node_stays _ (certify_grows c.order n)
+  part_stays (act.Start number) part = node_stays _ (start_grows c.order n number)
+  part_stays (act.Finish number) part = node_stays _ (finish_grows c.order n number)
+  part_stays act.Advance part = node_stays _ (advance_grows c.order n)
+  part_stays other part = absurd cc
 
--- ---- one step
-all_more : (most : ℕ) (nodes : List ModelNode) → AllByRecursion (IsWithin most) nodes → AllByRecursion (IsWithin (most + 1)) nodes
-all_more most [] all = tt
-all_more most (n ∷ ns) all = ((omega (arith, all.0.0), omega (arith, all.0.1)), all_more most ns all.1)
+part_at : (c : ModelCluster) (i : ℕ) (o : Option ModelNode) (a : Act) → slice_get c.nodes i ≡ o → IsTrue (is_part a) → Stays c (step_at c i o a).1
+part_at c i None a there part = record { nodes = refl; given = omega arith }
+part_at c i (Some n) a there part = part_stays c i n there a part
+
+abbrev AreParts : List Act → Type 0
+AreParts acts = AllByRecursion (λ a. IsTrue (is_part a)) acts
+
+parts_stay : (c : ModelCluster) (node : ℕ) (acts : List Act) → AreParts acts → Stays c (after_acts c node acts)
+unfolding after_acts cluster_step
+parts_stay c node [] parts = record { nodes = refl; given = omega arith }
+parts_stay c node (a ∷ acts) parts =
+    let next = (cluster_step c (record { node = node; act = a })).1 in
+    let one = part_at c (node - 1) (slice_get c.nodes (node - 1)) a refl parts.0 in
+    let rest = parts_stay next node acts parts.1 in
+    record { nodes = rest.nodes ∙ one.nodes; given = omega (arith, rest.given, one.given) }
+
+-- ---- all steps of a drain are parts
+parts_more : (one other : List Act) → AreParts one → AreParts other → AreParts (one ++ other)
+parts_more [] other here there = there
+parts_more (a ∷ one) other here there = (here.0, parts_more one other here.1 there)
+
+parts_front : (one other : List Act) → AreParts (one ++ other) → AreParts one
+parts_front [] other parts = tt
+parts_front (a ∷ one) other parts = (parts.0, parts_front one other parts.1)
+
+parts_same : (k : ℕ) (a : Act) → IsTrue (is_part a) → AreParts (replicate k a)
+parts_same zero a part = tt
+parts_same (suc k) a part = (part, parts_same k a part)
+
+commit_parts : (order : List Event) (k : ℕ) (n : ModelNode) → AreParts (commit_acts order k n)
+unfolding is_part
+commit_parts order zero n = tt
+commit_parts order (suc k) n = (refl, (refl, (refl, commit_parts order k (commit_next order n))))
+
+taken_parts : (order : List Event) (n : ModelNode) → AreParts (taken_acts order n)
+unfolding is_part
+taken_parts order n =
+    let m = all_certified order n in
+    parts_more (replicate (n.at.taken - n.at.certified) act.Certify) (certified_acts order m)
+    (parts_same (n.at.taken - n.at.certified) act.Certify refl) (commit_parts order (m.at.certified - m.at.committed) m)
+
+sent_parts : (order : List Event) (n : ModelNode) → AreParts (sent_acts (order, n))
+unfolding is_part
+sent_parts order n =
+    parts_more (replicate (length order - n.at.taken) act.Take) (taken_acts order (all_taken order n))
+    (parts_same (length order - n.at.taken) act.Take refl) (taken_parts order (all_taken order n))
+
+drain_parts : (order : List Event) (n : ModelNode) → AreParts (drain_acts order n)
+unfolding is_part
+drain_parts order n =
+    parts_more (replicate (length n.outbox) act.Order) (sent_acts (all_sent order n))
+    (parts_same (length n.outbox) act.Order refl) (sent_parts (all_sent order n).0 (all_sent order n).1)
+
+drain_parts_of : (order : List Event) (o : Option ModelNode) → AreParts (drain_acts_of order o)
+drain_parts_of order None = tt
+drain_parts_of order (Some n) = drain_parts order n
+
+-- ---- a step that was not done
+stopped_stays : (a : Act) (node : ℕ) (old new : ModelCluster) (next : Act) → StoppedAt a node old new next → Stays old new
+stopped_stays act.Drain node old new next stopped =
+    subst (Stays old) (sym stopped.is)
+    (parts_stay old node stopped.done (parts_front stopped.done (next ∷ stopped.rest)
+    (subst AreParts stopped.front (drain_parts_of old.order (slice_get old.nodes (node - 1))))))
+stopped_stays other node old new next stopped = subst (Stays old) (sym stopped.1) (record { nodes = refl; given = omega arith })
+
+-- ---- a step
+module _ (old new : ModelCluster) (step : Step) where
+  abbrev Done : {E : Type 0} → Result Answer E → Type 0
+  Done r = IfOk r (λ answer. (answer, new) ≡ cluster_step old step)
+
+  after : (x : Answer) → (x, new) ≡ cluster_step old step → (cluster_step old step).1 ≡ new
+  after x is = sym (ap (λ (p : Answer × ModelCluster). p.1) is)
+
+  pub given_after : {E : Type 0} (r : Result Answer E) → Done r → OnErr r (LeftBy step.act step.node old new) → given new ≤ given old + 1
+  given_after (Ok x) ok err = subst (λ c. given c ≤ given old + 1) (after x ok) (step_given old step)
+  given_after (Err e) ok err = omega (arith, (stopped_stays step.act step.node old new err.0 err.1).given)
+
+  pub nodes_after : {E : Type 0} (r : Result Answer E) → Done r → OnErr r (LeftBy step.act step.node old new) → length new.nodes ≡ length old.nodes
+  nodes_after (Ok x) ok err = ap (λ (c : ModelCluster). length c.nodes) (sym (after x ok)) ∙ (cluster_grows old step).count
+  nodes_after (Err e) ok err = (stopped_stays step.act step.node old new err.0 err.1).nodes
+
+  pub events_after : {E : Type 0} (r : Result Answer E) → Done r → OnOk r (length new.order ≡ length old.order + will_order old step)
+  events_after (Ok x) ok = ap (λ (c : ModelCluster). length c.order) (sym (after x ok)) ∙ (cluster_grows old step).order
+  events_after (Err e) ok = tt
+
+-- ---- at the start
+start_given : (id members : List ℕ) → nodes_given (map (start_node id) members) ≤ 1
+start_given id [] = omega arith
+start_given id (m ∷ ms) = omega (arith, len-empty nat_cmp Live, start_given id ms)
+
+pub given_at_start : (nodes : ℕ) (id : List ℕ) → given (start_cluster nodes id) ≡ 1
+unfolding given start_cluster
+given_at_start nodes id = omega (arith, start_sizes id (up_to nodes), start_given id (up_to nodes))
+
+pub nodes_at_start : (nodes : ℕ) (id : List ℕ) → length (start_cluster nodes id).nodes ≡ nodes
+unfolding start_cluster
+nodes_at_start nodes id = length-map (up_to nodes) (start_node id) ∙ length-up_to nodes
+
+-- ---- a cluster that has given out no more than so much
+pub can_go_on : (most nodes : ℕ) (c : ModelCluster) → most < 2 ^ 63 → IsCounted most nodes c → given c < 2 ^ 63
+can_go_on most nodes c small counted = omega (arith, small, counted.within)
 
 pub counted_more : (most nodes : ℕ) (c : ModelCluster) → IsCounted most nodes c → IsCounted (most + 1) nodes c
-counted_more most nodes c counted = record { count = counted.count; within = all_more most c.nodes counted.within }
-
-same_counted : (most nodes : ℕ) (old new : ModelCluster) → new ≡ old → IsCounted most nodes old → IsCounted (most + 1) nodes new
-same_counted most nodes old new same counted = counted_more most nodes new (subst (IsCounted most nodes) (sym same) counted)
-
-done_counted : (most nodes : ℕ) (old new : ModelCluster) (step : Step) (answer : Answer) → (answer, new) ≡ cluster_step old step
-    → IsCounted most nodes old → IsCounted (most + 1) nodes new
-done_counted most nodes old new step answer is counted =
-    let after : (cluster_step old step).1 ≡ new = sym (ap (λ (p : Answer × ModelCluster). p.1) is) in
-    subst (IsCounted (most + 1) nodes) after (record {
-      count = step_count old step ∙ counted.count;
-      within = (cluster_grows old step).numbers most counted.within;
-    })
-
-left_counted : (most nodes : ℕ) (old new : ModelCluster) (a : Act) (node : ℕ) → LeftBy a node old new
-    → IsCounted most nodes old → IsCounted (most + 1) nodes new
-left_counted most nodes old new act.Drain node left counted =
-    counted_more most nodes new (subst (IsCounted most nodes) (sym left.is) (parts_counted most nodes old node left.acts left.parts counted))
-left_counted most nodes old new act.Order node left counted = same_counted most nodes old new left counted
-left_counted most nodes old new act.Take node left counted = same_counted most nodes old new left counted
-left_counted most nodes old new act.Certify node left counted = same_counted most nodes old new left counted
-left_counted most nodes old new (act.Start number) node left counted = same_counted most nodes old new left counted
-left_counted most nodes old new (act.Finish number) node left counted = same_counted most nodes old new left counted
-left_counted most nodes old new act.Advance node left counted = same_counted most nodes old new left counted
-left_counted most nodes old new (act.Client session call) node left counted = same_counted most nodes old new left counted
-left_counted most nodes old new act.Report node left counted = same_counted most nodes old new left counted
-left_counted most nodes old new act.Status node left counted = same_counted most nodes old new left counted
-left_counted most nodes old new act.Leave node left counted = same_counted most nodes old new left counted
-left_counted most nodes old new (act.Join fresh) node left counted = same_counted most nodes old new left counted
-left_counted most nodes old new (act.Transfer donor) node left counted = same_counted most nodes old new left counted
+counted_more most nodes c counted = record { count = counted.count; within = omega (arith, counted.within) }
 
 pub step_counted : {E : Type 0} (most nodes : ℕ) (old new : ModelCluster) (step : Step) (r : Result Answer E)
     → IfOk r (λ answer. (answer, new) ≡ cluster_step old step) → OnErr r (LeftBy step.act step.node old new)
     → IsCounted most nodes old → IsCounted (most + 1) nodes new
-step_counted most nodes old new step (Ok answer) ok err counted = done_counted most nodes old new step answer ok counted
-step_counted most nodes old new step (Err fault) ok err counted = left_counted most nodes old new step.act step.node err counted
+step_counted most nodes old new step r ok err counted = record {
+  count = nodes_after old new step r ok err ∙ counted.count;
+  within = omega (arith, given_after old new step r ok err, counted.within);
+}
 
--- ---- what a step needs
-within_at : (most : ℕ) (nodes : List ModelNode) (i : ℕ) (n : ModelNode) → most < 2 ^ 63 → AllByRecursion (IsWithin most) nodes
-    → slice_get nodes i ≡ Some n → CanGoOn n
-within_at most [] i n small all there = absurd cc
-within_at most (x ∷ xs) zero n small all there =
-    let here : IsWithin most n = subst (IsWithin most) (some_is x n there) all.0 in
-    record { serial = omega (arith, here.0, small); begin = omega (arith, here.1, small) }
-within_at most (x ∷ xs) (suc i) n small all there = within_at most xs i n small all.1 there
-
-pub can_go_on : (most nodes : ℕ) (c : ModelCluster) → most < 2 ^ 63 → IsCounted most nodes c → AllCanGoOn c
-can_go_on most nodes c small counted i n there = within_at most c.nodes i n small counted.within there
-
--- ---- at the start
-start_within : (id members : List ℕ) → AllByRecursion (IsWithin 1) (map (start_node id) members)
-start_within id [] = tt
-start_within id (m ∷ ms) = ((omega arith, omega arith), start_within id ms)
-
-length-starts : (id members : List ℕ) → length (map (start_node id) members) ≡ length members
-length-starts id [] = refl
-length-starts id (m ∷ ms) = ap suc (length-starts id ms)
-
-pub start_counted : (nodes : ℕ) (id : List ℕ) (c : ModelCluster) → c.nodes ≡ map (start_node id) (up_to nodes) → IsCounted 1 nodes c
+pub start_counted : (nodes : ℕ) (id : List ℕ) (c : ModelCluster) → c ≡ start_cluster nodes id → IsCounted 1 nodes c
 start_counted nodes id c is = record {
-  count = ap length is ∙ length-starts id (up_to nodes) ∙ length-up_to nodes;
-  within = subst (AllByRecursion (IsWithin 1)) (sym is) (start_within id (up_to nodes));
+  count = ap (λ (d : ModelCluster). length d.nodes) is ∙ nodes_at_start nodes id;
+  within = (let e : given c ≡ 1 = ap given is ∙ given_at_start nodes id in omega (arith, e));
 }
 
 -- ---- an id

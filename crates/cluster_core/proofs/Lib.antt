@@ -3,5 +3,3 @@ pub mod CountedLaws
 pub mod DrainLaws
 pub mod RunLaws
 pub mod SeatLaws
-pub mod StepLemmas
-pub mod UnitsKept

@@ -1,16 +1,19 @@
 -- Steps of one node, one after another.
-use Rattle.std.proofs.Common.{◌≡◌, ℕ, zero, suc, ◌-◌, List, [], ◌∷◌, ◌++◌, Some, refl, sym, ap, ◌∙◌}
-use Rattle.std.specs.Prelude.{slice_get, IsTrue}
-use Rattle.std.specs.List.{AllByRecursion}
+use Rattle.std.proofs.Common.{◌≡◌, ℕ, zero, suc, ◌+◌, ◌-◌, List, [], ◌∷◌, ◌++◌, Some, refl, sym, ap, subst, ◌∙◌, arith, append_assoc}
+use Rattle.std.specs.Prelude.{slice_get, replicate}
+use Rattle.std.proofs.lemmas.List.{replicate-append-replicate}
 use Rattle.order_event.specs.declared.event.Event.{Event}
 use Rattle.order_event.specs.declared.step.Act.{Act}
+use Rattle.order_event.specs.declared.step.Act.TheVariants as act
 use Rattle.order_event.specs.declared.step.Answer.{Answer}
 use Rattle.node_meaning.specs.Node.{ModelNode}
+use Rattle.node_meaning.specs.Steps.{commit_next, times}
 use Rattle.node_meaning.specs.Cluster.{ModelCluster, set_at, step_at, cluster_step}
 use Rattle.node_core.specs.Stands.{plain_of}
 use Rattle.cluster_core.specs.declared.seat.Seat.{Seat}
-use Rattle.cluster_core.specs.Steps.{is_part, after_acts}
-use Rattle.cluster_core.specs.Acts.{Acted, Runs, cluster_of}
+use Rattle.cluster_core.specs.Steps.{after_acts, commit_acts}
+use Rattle.cluster_core.specs.Acts.{Acted, Runs, Stops, cluster_of}
+use Rattle.cluster_core.proofs.ActLaws.{runs_none, there_after}
 
 after_more : (c : ModelCluster) (node : ℕ) (one other : List Act) → after_acts c node (one ++ other) ≡ after_acts (after_acts c node one) node other
 unfolding after_acts
@@ -22,34 +25,59 @@ set_again [] i x y = refl
 set_again (z ∷ zs) zero x y = refl
 set_again (z ∷ zs) (suc i) x y = ap (λ ys. z ∷ ys) (set_again zs i x y)
 
-there_after : {A : Type 0} (xs : List A) (i : ℕ) (x y : A) → slice_get xs i ≡ Some x → slice_get (set_at xs i y) i ≡ Some y
-there_after [] i x y there = absurd cc
-there_after (z ∷ zs) zero x y there = refl
-there_after (z ∷ zs) (suc i) x y there = there_after zs i x y there
-
-parts_more : (one other : List Act) → AllByRecursion (λ a. IsTrue (is_part a)) one → AllByRecursion (λ a. IsTrue (is_part a)) other
-    → AllByRecursion (λ a. IsTrue (is_part a)) (one ++ other)
-parts_more [] other here there = there
-parts_more (a ∷ one) other here there = (here.0, parts_more one other here.1 there)
-
-pub runs_then : (a b c : List Event) (m n o : ModelNode) → Runs a b m n → Runs b c n o → Runs a c m o
-runs_then a b c m n o one two = record {
-  acts = one.acts ++ two.acts;
-  parts = parts_more one.acts two.acts one.parts two.parts;
+pub runs_then : (one other : List Act) (a b c : List Event) (m n o : ModelNode) → Runs one a b m n → Runs other b c n o → Runs (one ++ other) a c m o
+runs_then one other a b c m n o first second = record {
   is = λ nodes node there.
       ap (cluster_of c) (sym (set_again nodes (node - 1) n o))
-      ∙ two.is (set_at nodes (node - 1) n) node (there_after nodes (node - 1) m n there)
-      ∙ ap (λ k. after_acts k node two.acts) (one.is nodes node there)
-      ∙ sym (after_more (cluster_of a nodes) node one.acts two.acts);
+      ∙ second.is (set_at nodes (node - 1) n) node (there_after nodes (node - 1) m n there)
+      ∙ ap (λ k. after_acts k node other) (first.is nodes node there)
+      ∙ sym (after_more (cluster_of a nodes) node one other);
 }
 
-pub runs_acted : (a : Act) (before now : List Event) (old new : Seat) (answer : Answer) → IsTrue (is_part a) → Acted a before now old new answer
-    → Runs before now (plain_of old.node) (plain_of new.node)
+pub runs_acted : (a : Act) (before now : List Event) (old new : Seat) (answer : Answer) → Acted a before now old new answer
+    → Runs (a ∷ []) before now (plain_of old.node) (plain_of new.node)
 unfolding after_acts cluster_step
-runs_acted a before now old new answer part acted = record {
-  acts = a ∷ [];
-  parts = (part, tt);
+runs_acted a before now old new answer acted = record {
   is = λ nodes node there.
       ap (λ (r : Answer × ModelCluster). r.1)
       (acted.same nodes (node - 1) there ∙ ap (λ o. step_at (cluster_of before nodes) (node - 1) o a) (sym there));
 }
+
+-- ---- some of the steps, and then one that was not done
+pub stops_none : (a : Act) (rest : List Act) (before now : List Event) (old new : ModelNode) → now ≡ before → new ≡ old
+    → Stops (a ∷ rest) before now old new a
+stops_none a rest before now old new is same = record {
+  done = [];
+  rest = rest;
+  front = refl;
+  ran = subst (λ o. Runs [] before o old new) (sym is) (subst (λ n. Runs [] before before old n) (sym same) (runs_none before old));
+}
+
+pub stops_first : (acts more : List Act) (before now : List Event) (old new : ModelNode) (next : Act) → Stops acts before now old new next
+    → Stops (acts ++ more) before now old new next
+stops_first acts more before now old new next stops = record {
+  done = stops.done;
+  rest = stops.rest ++ more;
+  front = ap (λ xs. xs ++ more) stops.front ∙ append_assoc stops.done (next ∷ stops.rest) more;
+  ran = stops.ran;
+}
+
+pub stops_later : (one other : List Act) (a b c : List Event) (m n o : ModelNode) (next : Act) → Runs one a b m n → Stops other b c n o next
+    → Stops (one ++ other) a c m o next
+stops_later one other a b c m n o next ran stops = record {
+  done = one ++ stops.done;
+  rest = stops.rest;
+  front = ap (λ xs. one ++ xs) stops.front ∙ sym (append_assoc one stops.done (next ∷ stops.rest));
+  ran = runs_then one stops.done a b c m n o ran stops.ran;
+}
+
+-- ---- so many steps of one kind, and the steps of so many commits
+pub replicate_split : (k r : ℕ) (a : Act) → replicate (k + r) a ≡ replicate k a ++ replicate r a
+replicate_split k r a = sym (replicate-append-replicate k r a)
+
+pub commit_split : (order : List Event) (k r : ℕ) (n : ModelNode)
+    → commit_acts order (k + r) n ≡ commit_acts order k n ++ commit_acts order r (times k (commit_next order) n)
+commit_split order zero r n = ap (λ j. commit_acts order j n) (let e : 0 + r ≡ r = omega arith in e)
+commit_split order (suc k) r n =
+    ap (λ j. commit_acts order j n) (let e : suc k + r ≡ suc (k + r) = omega arith in e)
+    ∙ ap (λ xs. act.Start (n.at.committed + 1) ∷ act.Finish (n.at.committed + 1) ∷ act.Advance ∷ xs) (commit_split order k r (commit_next order n))

@@ -1,9 +1,11 @@
 -- A seat after a step of its node, and under an order that grows.
-use Rattle.std.proofs.Common.{◌≡◌, ℕ, ◌≤◌, Bool, true, false, cond, List, [], ◌++◌, Result, Ok, Err, length, Option, None, Some, refl, sym, ap, subst, ◌∙◌, arith}
+use Rattle.std.proofs.Common.{◌≡◌, ℕ, ◌≤◌, ◌<◌, Bool, true, false, cond, List, [], ◌++◌, Result, Ok, Err, length, Option, None, Some, refl, sym, ap, subst, ◌∙◌, arith}
 use Rattle.std.specs.Prelude.{◌==◌, IsTrue, is_some, OnErr}
 use Rattle.std.proofs.lemmas.Bool.{eqb-true, eq-eqb}
 use Rattle.std.specs.Ordering.{nat_cmp, eq_by_cmp}
 use Rattle.std.specs.Cmp.{nat_cmp_total}
+use Rattle.std.proofs.lemmas.Option.{same_Some}
+use Rattle.finite_map.proofs.Edits.{numbers, tied, itself}
 use Rattle.finite_map.specs.FiniteMap.{FiniteMap, get, insert, get-insert, get-empty}
 use Rattle.row_model.specs.declared.ops.Op.{Op}
 use Rattle.row_model.specs.Rows.{Rows}
@@ -21,18 +23,16 @@ use Rattle.node_meaning.specs.Node.{ModelNode, ApplyUnit, rows_at, start_node}
 use Rattle.node_meaning.specs.Client.{client}
 use Rattle.node_meaning.specs.Units.{ops_at, unit_task, images_of}
 use Rattle.node_meaning.specs.Steps.{start_step, finish_step, take_step, certify_step, advance_step, node_step}
-use Rattle.node_meaning.proofs.UnitLaws.{task-unit}
-use Rattle.node_meaning.proofs.EntryLaws.{some_is, number-exact, number-itself}
 use Rattle.node_core.specs.declared.node.Node.{Node}
 use Rattle.node_core.specs.declared.answers.Started.{Started}
 use Rattle.node_core.specs.declared.answers.Started.TheVariants as started
 use Rattle.node_core.specs.Answers.{is_started, started_answer, GivesTask}
+use Rattle.node_core.specs.Memory.{StartWants, is_start}
 use Rattle.node_core.specs.Stands.{Stands, Unchanged, DoneOver, plain_of}
-use Rattle.node_core.proofs.ClientCalls.{unchanged_stands}
-use Rattle.node_core.proofs.Growth.{stands_grow, unit_task-append}
+use Rattle.node_core.proofs.NodeLaws.{unchanged_stands, stands_grow, started_task, advance_started}
 use Rattle.cluster_core.specs.declared.seat.Seat.{Seat}
 use Rattle.cluster_core.specs.Seated.{IsSeated, IsSomewhere, SeatDone, SeatUnchanged, KeepsTask, kept_at, work_of}
-use Rattle.cluster_core.proofs.UnitsKept.{Starts, client_kept, take_kept, certify_kept, start_starts, finish_done, finish_idle, advance_started}
+use Rattle.node_laws.proofs.StartedUnits.{client_units, take_units, certify_units, Starts, start_starts, finish_done, finish_idle}
 
 -- ---- numbers
 bool_same : (b c : Bool) → (b ≡ true → c ≡ true) → (c ≡ true → b ≡ true) → b ≡ c
@@ -42,8 +42,8 @@ bool_same false false there back = refl
 
 tie : (a b : ℕ) → (a == b) ≡ eq_by_cmp nat_cmp b a
 tie a b = bool_same (a == b) (eq_by_cmp nat_cmp b a)
-    (λ e. subst (λ x. eq_by_cmp nat_cmp x a ≡ true) (eqb-true a b e) (number-itself a))
-    (λ e. eq-eqb a b (sym (number-exact b a e)))
+    (λ e. subst (λ x. eq_by_cmp nat_cmp x a ≡ true) (eqb-true a b e) (itself numbers a))
+    (λ e. eq-eqb a b (sym (tied numbers b a e)))
 
 pub on_err : {A E P : Type 0} (r : Result A E) → P → OnErr r P
 on_err (Ok a) p = tt
@@ -70,16 +70,6 @@ unchanged old new u same = record {
   };
 }
 
--- more room for work leaves all as it was
-pub roomier : (old new : Seat) → new.node ≡ old.node → ((k : ℕ) → kept_at new.done.entries k ≡ kept_at old.done.entries k) → SeatUnchanged old new
-roomier old new node same = record {
-  plain = ap plain_of node;
-  seated = λ order s. record {
-    stands = subst (Stands order) (sym node) s.stands;
-    work = λ k. same k ∙ s.work k ∙ ap (λ (n : Node). work_of order k (is_started (get n.units.units k))) (sym node);
-  };
-}
-
 -- ---- steps that leave each unit started that was
 pub seat_does : (order : List Event) (f : ModelNode → Answer × ModelNode) (old : Seat) (node : Node) (a : Answer)
     → DoneOver order f old.node node a
@@ -103,51 +93,70 @@ pub client_does : (order : List Event) (session : ℕ) (call : Call) (old : Seat
 client_does order session call old node reply d s =
     seat_does order (λ n. node_step order n (act.Client session call)) old node (answer.Client reply)
     (record { same = ap (λ (r : Reply × ModelNode). (answer.Client r.0, r.1)) d.same; stands = d.stands })
-    (λ k. at_number k (client order (plain_of old.node) session call).1 (plain_of old.node) (client_kept order (plain_of old.node) session call)) s
+    (λ k. at_number k (client order (plain_of old.node) session call).1 (plain_of old.node) (client_units order (plain_of old.node) session call)) s
 
 pub take_does : (order : List Event) (old : Seat) (node : Node) (a : Answer) → DoneOver order (take_step order) old.node node a → IsSeated order old
     → SeatDone order (take_step order) old (record old { node = node }) a
 take_does order old node a d s =
     seat_does order (take_step order) old node a d
-    (λ k. at_number k (take_step order (plain_of old.node)).1 (plain_of old.node) (take_kept order (plain_of old.node))) s
+    (λ k. at_number k (take_step order (plain_of old.node)).1 (plain_of old.node) (take_units order (plain_of old.node))) s
 
 pub certify_does : (order : List Event) (old : Seat) (node : Node) (a : Answer) → DoneOver order (λ n. certify_step order n) old.node node a
     → IsSeated order old → SeatDone order (λ n. node_step order n act.Certify) old (record old { node = node }) a
 certify_does order old node a d s =
     seat_does order (λ n. certify_step order n) old node a d
-    (λ k. at_number k (certify_step order (plain_of old.node)).1 (plain_of old.node) (certify_kept order (plain_of old.node))) s
+    (λ k. at_number k (certify_step order (plain_of old.node)).1 (plain_of old.node) (certify_units order (plain_of old.node))) s
 
 pub advance_does : (order : List Event) (old : Seat) (node : Node) (a : Answer) → DoneOver order (λ n. advance_step order n) old.node node a
     → IsSeated order old → SeatDone order (λ n. node_step order n act.Advance) old (record old { node = node }) a
 advance_does order old node a d s =
-    seat_does order (λ n. advance_step order n) old node a d (advance_started order (plain_of old.node) s.stands.facts) s
+    seat_does order (λ n. advance_step order n) old node a d (advance_started order old.node s.stands) s
+
+-- ---- more room for work, which leaves all as it was
+pub roomy : (old new : Seat) → new.node ≡ old.node → ((k : ℕ) → kept_at new.done.entries k ≡ kept_at old.done.entries k) → SeatUnchanged old new
+roomy old new node same = record {
+  plain = ap plain_of node;
+  seated = λ order s. record {
+    stands = subst (Stands order) (sym node) s.stands;
+    work = λ k. same k ∙ s.work k ∙ ap (λ (n : Node). work_of order k (is_started (get n.units.units k))) (sym node);
+  };
+}
+
+pub then_unchanged : (old middle new : Seat) → SeatUnchanged old middle → SeatUnchanged middle new → SeatUnchanged old new
+then_unchanged old middle new first second = record {
+  plain = second.plain ∙ first.plain;
+  seated = λ order s. second.seated order (first.seated order s);
+}
+
+pub then_done : (order : List Event) (f : ModelNode → Answer × ModelNode) (old middle new : Seat) (a : Answer) → SeatUnchanged old middle
+    → SeatDone order f middle new a → SeatDone order f old new a
+then_done order f old middle new a u d = record { same = d.same ∙ ap f u.plain; seated = d.seated }
 
 -- ---- starting
-module _ (order : List Event) (old new : Seat) (number : ℕ) (middle : List (ℕ × ModelTask))
-    (same : (k : ℕ) → kept_at middle k ≡ kept_at old.done.entries k) (s : IsSeated order old) where
-  work_left : new.done.entries ≡ middle → new.node.units.units ≡ old.node.units.units
+module _ (order : List Event) (old new : Seat) (number : ℕ) (s : IsSeated order old) where
+  work_left : new.done.entries ≡ old.done.entries → new.node.units.units ≡ old.node.units.units
       → (k : ℕ) → kept_at new.done.entries k ≡ work_of order k (is_started (get new.node.units.units k))
   work_left kept units k =
-      ap (λ entries. kept_at entries k) kept ∙ same k ∙ s.work k
+      ap (λ entries. kept_at entries k) kept ∙ s.work k
       ∙ ap (λ (us : FiniteMap nat_cmp ApplyUnit). work_of order k (is_started (get us k))) (sym units)
 
   new_work : (t : ModelTask) (keys : Keys) → t ≡ unit_task order number → (k : ℕ) (b : Bool) → eq_by_cmp nat_cmp k number ≡ b
-      → cond b (Some t) (kept_at middle k) ≡ work_of order k (is_started (cond b (Some (record { stage = StartedStage; keys = keys })) (get old.node.units.units k)))
-  new_work t keys is k true e = ap Some (is ∙ ap (unit_task order) (sym (number-exact k number e)))
-  new_work t keys is k false e = same k ∙ s.work k
+      → cond b (Some t) (kept_at old.done.entries k) ≡ work_of order k (is_started (cond b (Some (record { stage = StartedStage; keys = keys })) (get old.node.units.units k)))
+  new_work t keys is k true e = ap Some (is ∙ ap (unit_task order) (sym (tied numbers k number e)))
+  new_work t keys is k false e = s.work k
 
   work_added : (t : ModelTask) (keys : Keys) → t ≡ unit_task order number
-      → ((k : ℕ) → kept_at new.done.entries k ≡ cond (number == k) (Some t) (kept_at middle k))
+      → ((k : ℕ) → kept_at new.done.entries k ≡ cond (number == k) (Some t) (kept_at old.done.entries k))
       → new.node.units.units ≡ insert old.node.units.units number (record { stage = StartedStage; keys = keys })
       → (k : ℕ) → kept_at new.done.entries k ≡ work_of order k (is_started (get new.node.units.units k))
   work_added t keys is kept units k =
-      kept k ∙ ap (λ b. cond b (Some t) (kept_at middle k)) (tie number k)
+      kept k ∙ ap (λ b. cond b (Some t) (kept_at old.done.entries k)) (tie number k)
       ∙ new_work t keys is k (eq_by_cmp nat_cmp k number) refl
       ∙ ap (λ o. work_of order k (is_started o)) (sym (get-insert nat_cmp_total old.node.units.units number (record { stage = StartedStage; keys = keys }) k))
       ∙ ap (λ (us : FiniteMap nat_cmp ApplyUnit). work_of order k (is_started (get us k))) (sym units)
 
   work_after : (r : Started) → Starts number (started_answer number r) (plain_of old.node) (plain_of new.node) → GivesTask order number r
-      → KeepsTask number r middle new.done.entries
+      → KeepsTask number r old.done.entries new.done.entries
       → (k : ℕ) → kept_at new.done.entries k ≡ work_of order k (is_started (get new.node.units.units k))
   work_after (started.Unit t victims) starts is kept = work_added t starts.0 is kept starts.1
   work_after (started.NotYet earlier) starts is kept = work_left kept starts
@@ -155,7 +164,7 @@ module _ (order : List Event) (old new : Seat) (number : ℕ) (middle : List (�
   work_after started.NoUnit starts is kept = work_left kept starts
 
   pub start_does : (r : Started) → DoneOver order (λ n. start_step order n number) old.node new.node (started_answer number r)
-      → GivesTask order number r → KeepsTask number r middle new.done.entries
+      → GivesTask order number r → KeepsTask number r old.done.entries new.done.entries
       → SeatDone order (λ n. node_step order n (act.Start number)) old new (started_answer number r)
   start_does r d is kept = record {
     same = d.same;
@@ -167,37 +176,17 @@ module _ (order : List Event) (old new : Seat) (number : ℕ) (middle : List (�
     };
   }
 
--- ---- the work of a unit is the same over each order over which the node stands
-module _ (order other : List Event) (node : Node) (st : Stands order node) (su : Stands other node) (number : ℕ) where
-  same_ops : (u : ApplyUnit) → get node.units.units number ≡ Some u → ops_at order number ≡ ops_at other number
-  same_ops u there =
-      let one = st.facts.units number u there in
-      let two = su.facts.units number u there in
-      some_is (ops_at order number) (ops_at other number)
-      (sym (st.passed.kept number one.above one.within (subst (λ (o : Option CommitItem). IsTrue (is_some o)) (sym one.is_commit) refl))
-      ∙ su.passed.kept number two.above two.within (subst (λ (o : Option CommitItem). IsTrue (is_some o)) (sym two.is_commit) refl))
-
-  same_rows : rows_at order node.at.committed ≡ rows_at other node.at.committed
-  same_rows = sym st.tables.rows.committed ∙ su.tables.rows.committed
-
-  task_of : (u : ApplyUnit) → get node.units.units number ≡ Some u → unit_task order number ≡ unit_task other number
-  task_of u there =
-      task-unit order (plain_of node) number u st.facts there
-      ∙ ap (λ (ops : List Op). task number ops (images_of ops (rows_at order node.at.committed))) (same_ops u there)
-      ∙ ap (λ (rows : Rows). task number (ops_at other number) (images_of (ops_at other number) rows)) same_rows
-      ∙ sym (task-unit other (plain_of node) number u su.facts there)
-
-  by_unit : (o : Option ApplyUnit) → get node.units.units number ≡ o → is_started o ≡ true → unit_task order number ≡ unit_task other number
-  by_unit None there is = absurd cc
-  by_unit (Some u) there is = task_of u there
-
-  pub same_task : is_started (get node.units.units number) ≡ true → unit_task order number ≡ unit_task other number
-  same_task is = by_unit (get node.units.units number) refl is
+-- there is room for the work where the unit starts
+pub room_there : (order : List Event) (old new : Seat) (node : Node) (number spare : ℕ) (r : Started) → SeatUnchanged old new
+    → DoneOver order (λ n. start_step order n number) new.node node (started_answer number r)
+    → (StartWants order (plain_of old.node) number → 0 < spare) → IsTrue (is_start (started_answer number r)) → 0 < spare
+room_there order old new node number spare r u d room is =
+    room (ap (λ n. is_start (start_step order n number).0) (sym u.plain) ∙ ap (λ (p : Answer × ModelNode). is_start p.0) (sym d.same) ∙ is)
 
 -- ---- finishing
 -- what is kept for a number is the work of a started unit
 kept_is : (order : List Event) (number : ℕ) (b : Bool) (t : ModelTask) → Some t ≡ work_of order number b → (b ≡ true) × (t ≡ unit_task order number)
-kept_is order number true t is = (refl, some_is t (unit_task order number) is)
+kept_is order number true t is = (refl, same_Some t (unit_task order number) is)
 kept_is order number false t is = absurd cc
 
 none_kept : (order : List Event) (number : ℕ) (b : Bool) → None ≡ work_of order number b → b ≡ false
@@ -218,7 +207,7 @@ module _ (old : Seat) (number : ℕ) (t : ModelTask) (kept : kept_at old.done.en
   pub finish_work : IsSomewhere old → (order : List Event) → Stands order old.node
       → IsTrue (is_started (get old.node.units.units t.number)) → t ≡ unit_task order t.number
   finish_work at order st is =
-      (kept_work at.0 at.1).1 ∙ same_task at.0 order old.node at.1.stands st number (kept_work at.0 at.1).0
+      (kept_work at.0 at.1).1 ∙ started_task at.0 order old.node at.1.stands st number (kept_work at.0 at.1).0
       ∙ ap (unit_task order) (sym (kept_number at))
 
   module _ (order : List Event) (new : Seat) (s : IsSeated order old)
@@ -257,19 +246,15 @@ finish_none order old new number none node entries s = record {
 }
 
 -- ---- an order that grows
-module _ (order more : List Event) (seat : Seat) (s : IsSeated order seat) where
-  within_order : (k : ℕ) (o : Option ApplyUnit) → get seat.node.units.units k ≡ o → is_started o ≡ true → k ≤ length order
-  within_order k None there is = absurd cc
-  within_order k (Some u) there is =
-      let unit = s.stands.facts.units k u there in
-      omega (arith, unit.within, s.stands.facts.in_order.certified_fits, s.stands.facts.in_order.taken_fits)
+work_same : (order other : List Event) (seat : Seat) → IsSeated order seat → Stands other seat.node → (k : ℕ) (b : Bool)
+    → is_started (get seat.node.units.units k) ≡ b → work_of order k b ≡ work_of other k b
+work_same order other seat s st k true is = ap Some (started_task order other seat.node s.stands st k is)
+work_same order other seat s st k false is = refl
 
-  work_grows : (k : ℕ) (b : Bool) → (b ≡ true → k ≤ length order) → work_of order k b ≡ work_of (order ++ more) k b
-  work_grows k true fits = ap Some (sym (unit_task-append order more k (fits refl)))
-  work_grows k false fits = refl
-
-  pub seated_grow : IsSeated (order ++ more) seat
-  seated_grow = record {
-    stands = stands_grow order more seat.node s.stands;
-    work = λ k. s.work k ∙ work_grows k (is_started (get seat.node.units.units k)) (within_order k (get seat.node.units.units k) refl);
-  }
+pub seated_grow : (order more : List Event) (seat : Seat) → IsSeated order seat → IsSeated (order ++ more) seat
+seated_grow order more seat s =
+    let stands = stands_grow order more seat.node s.stands in
+    record {
+      stands = stands;
+      work = λ k. s.work k ∙ work_same order (order ++ more) seat s stands k (is_started (get seat.node.units.units k)) refl;
+    }

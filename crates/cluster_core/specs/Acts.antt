@@ -1,5 +1,5 @@
 -- what one node of a cluster and its group are after a step of that node
-use Rattle.std.specs.Prelude.{◌≡◌, ℕ, ◌-◌, List, ◌++◌, map, slice_get, Some, IsTrue}
+use Rattle.std.specs.Prelude.{◌≡◌, ℕ, ◌-◌, List, ◌∷◌, ◌++◌, map, slice_get, Some}
 use Rattle.std.specs.List.{AllByRecursion}
 use Rattle.order_event.specs.declared.event.Event.{Event}
 use Rattle.order_event.specs.declared.step.Act.{Act}
@@ -11,7 +11,8 @@ use Rattle.node_meaning.specs.Cluster.{ModelCluster, set_at, step_of}
 use Rattle.node_core.specs.Stands.{plain_of}
 use Rattle.cluster_core.specs.declared.seat.Seat.{Seat}
 use Rattle.cluster_core.specs.Seated.{IsSeated}
-use Rattle.cluster_core.specs.Steps.{is_part, after_acts}
+use Rattle.cluster_core.specs.declared.fault.StepFault.{StepFault}
+use Rattle.cluster_core.specs.Steps.{after_acts, drain_acts, Wants, AtNoMemory}
 
 -- the seat stands over the order, and the members of each view can be counted
 pub record IsKept (order : List Event) (seat : Seat) : Type 0 where
@@ -33,21 +34,34 @@ pub record Acted (a : Act) (before now : List Event) (old new : Seat) (answer : 
       → (answer, cluster_of now (set_at nodes i (plain_of new.node))) ≡ step_of (cluster_of before nodes) i (plain_of old.node) a
   pub goes : Goes before now new
 
--- some of the steps that a drain is made of lead from the one to the other
-pub record Runs (before now : List Event) (old new : ModelNode) : Type 0 where
-  pub acts : List Act
-  pub parts : AllByRecursion (λ a. IsTrue (is_part a)) acts
+-- these steps lead from the one to the other
+pub record Runs (acts : List Act) (before now : List Event) (old new : ModelNode) : Type 0 where
   pub is : (nodes : List ModelNode) (node : ℕ) → slice_get nodes (node - 1) ≡ Some old
       → cluster_of now (set_at nodes (node - 1) new) ≡ after_acts (cluster_of before nodes) node acts
 
--- all is as it was, and for a drain as some of its steps leave it
-abbrev pub Left : Act → List Event → List Event → ModelNode → ModelNode → Type 0
-Left act.Drain before now old new = Runs before now old new
-Left other before now old new = (now ≡ before) × (new ≡ old)
+-- of these steps those before this one were done, and it was not
+pub record Stops (acts : List Act) (before now : List Event) (old new : ModelNode) (next : Act) : Type 0 where
+  pub done : List Act
+  pub rest : List Act
+  pub front : acts ≡ done ++ next ∷ rest
+  pub ran : Runs done before now old new
+
+-- and where it wanted memory it may want it there
+pub record Halts (acts : List Act) (before now : List Event) (old new : Seat) (fault : StepFault) : Type 0 where
+  pub next : Act
+  pub stops : Stops acts before now (plain_of old.node) (plain_of new.node) next
+  pub wants : AtNoMemory (Wants now (plain_of new.node) next) fault
+
+-- all is as it was, and for a drain as the steps before this one leave it
+abbrev pub Left : Act → List Event → List Event → ModelNode → ModelNode → Act → Type 0
+Left act.Drain before now old new next = Stops (drain_acts before old) before now old new next
+Left other before now old new next = (next ≡ other) × (now ≡ before) × (new ≡ old)
 
 -- a step that could not be done
-pub record Failed (a : Act) (before now : List Event) (old new : Seat) : Type 0 where
-  pub left : Left a before now (plain_of old.node) (plain_of new.node)
+pub record Failed (a : Act) (before now : List Event) (old new : Seat) (fault : StepFault) : Type 0 where
+  pub next : Act
+  pub left : Left a before now (plain_of old.node) (plain_of new.node) next
+  pub wants : AtNoMemory (Wants now (plain_of new.node) next) fault
   pub goes : Goes before now new
 
 -- all seats of a cluster stand over the order

@@ -1,14 +1,24 @@
--- how many numbers the nodes of a cluster have given out
-use Rattle.std.specs.Prelude.{◌≡◌, ◌≤◌, ℕ, length}
-use Rattle.std.specs.List.{AllByRecursion}
+-- how much a cluster has given out
+use Rattle.std.specs.Prelude.{◌≡◌, ◌≤◌, ℕ, ◌+◌, max, List, [], ◌∷◌, length}
+use Rattle.finite_map.specs.FiniteMap.{len}
 use Rattle.node_meaning.specs.Node.{ModelNode}
 use Rattle.node_meaning.specs.Cluster.{ModelCluster}
+use Rattle.node_laws.specs.Sizes.{cluster_size}
 
--- its next serial and begin number are no greater
-abbrev pub IsWithin : ℕ → ModelNode → Type 0
-IsWithin most n = (n.at.serial ≤ most) × (n.at.begin ≤ most)
+-- a node's next serial together with its live transactions, or its next begin number: the greater
+abbrev pub node_given : ModelNode → ℕ
+node_given n = max (n.at.serial + len n.live) n.at.begin
 
--- a cluster of so many nodes, each within that number
+-- the greatest of all nodes
+abbrev pub nodes_given : List ModelNode → ℕ
+nodes_given [] = 0
+nodes_given (n ∷ ns) = max (node_given n) (nodes_given ns)
+
+-- that, or the events, the messages that wait and the live transactions together: the greater
+unfoldable pub given : ModelCluster → ℕ
+given c = max (cluster_size c) (nodes_given c.nodes)
+
+-- a cluster of so many nodes, which has given out no more than that
 pub record IsCounted (most nodes : ℕ) (c : ModelCluster) : Type 0 where
   pub count : length c.nodes ≡ nodes
-  pub within : AllByRecursion (IsWithin most) c.nodes
+  pub within : given c ≤ most

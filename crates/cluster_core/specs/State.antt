@@ -14,9 +14,6 @@ pub record CanGoOn (n : ModelNode) : Type 0 where
   pub serial : n.at.serial < 2 ^ 63
   pub begin : n.at.begin < 2 ^ 63
 
-abbrev pub AllCanGoOn : ModelCluster → Type 0
-AllCanGoOn c = (i : ℕ) (n : ModelNode) → slice_get c.nodes i ≡ Some n → CanGoOn n
-
 -- what a node shows at the end: how far it has committed, and its committed rows
 abbrev pub at_of : Option ModelNode → ℕ
 at_of None = 0

@@ -1,4 +1,4 @@
-ghost use Rattle.std.specs.Prelude.{◌≡◌, ◌≢◌, ◌≤◌, ◌<◌, ◌+◌, length, IfOk, OnErr, IsTrue};
+ghost use Rattle.std.specs.Prelude.{◌≡◌, ◌≢◌, ◌≤◌, ◌<◌, ◌+◌, ◌^◌, length, IfOk, IfErr, OnOk, OnErr, IsTrue};
 ghost use Rattle.wsrep_base.specs.StateId.{nil_id};
 ghost use Rattle.order_event.specs.Fits.{step_fits};
 ghost use Rattle.group_order.specs.Order.{start_order};
@@ -42,25 +42,28 @@ impl<G: Group> Model for Cluster<G> {
 }
 
 impl<G: Group> Cluster<G> {
-    ghost use Rattle.cluster_core.specs.State.{AllCanGoOn, end_at, end_rows};
-    ghost use Rattle.cluster_core.specs.Steps.{has_session, LeftBy, HasGroupCause};
+    ghost use Rattle.cluster_core.specs.State.{end_at, end_rows};
+    ghost use Rattle.cluster_core.specs.Counted.{given};
+    ghost use Rattle.cluster_core.specs.Steps.{has_session, LeftBy, WantedBy, AtNoMemory, HasGroupCause};
 
     /// So many nodes at their start, over a group at its start. The size of the ring of events, in
     /// bytes, is not used yet.
     pub fn new(
         alloc: Global,
         group: G,
-        id: &StateId,
+        id: StateId,
         nodes: u8,
         gcache: u64,
     ) -> Result<Cluster<G>, NoMemory>
         requires some { 1 ≤ nodes }
         requires few { nodes ≤ 9 }
-        requires id { id.now ≢ nil_id }
+        requires id { id ≢ nil_id }
         requires ring { gcache ≤ 16_777_216 }
         requires order { G.order group ≡ start_order nodes }
-        ensures start { IfOk result (λ c. c.model ≡ start_cluster nodes id.now) }
+        ensures start { IfOk result (λ c. c.model ≡ start_cluster nodes id) }
         ensures faults { IfOk result (λ c. c.faults ≡ G.faults group) }
+        ensures nodes { IfOk result (λ c. length c.model.nodes ≡ nodes) }
+        ensures counts { IfOk result (λ c. given c.model ≡ 1) }
     {
         let seats = seats_of(alloc, id, nodes, gcache)?;
         Ok(Cluster { group, seats })
@@ -72,10 +75,16 @@ impl<G: Group> Cluster<G> {
         requires session { has_session step.now.act }
         requires names { IsTrue (step_fits step.now) }
         requires events { length self.old.model.order + will_order self.old.model step.now ≤ 500_000 }
-        requires counts { AllCanGoOn self.old.model }
+        requires counts { given self.old.model < 2 ^ 63 }
         ensures ok { IfOk result (λ answer. (answer, self.new.model) ≡ cluster_step self.old.model step.now) }
         ensures err { OnErr result (LeftBy step.now.act step.now.node self.old.model self.new.model) }
         ensures cause { HasGroupCause self.old.faults self.new.faults result }
+        // The count is that of a group, so it never rises where no group of the type fails.
+        ensures group { (g : G) × (self.new.faults ≡ G.faults g) }
+        ensures memory { IfErr result (AtNoMemory (WantedBy step.now.act step.now.node self.old.model self.new.model)) }
+        ensures counts { given self.new.model ≤ given self.old.model + 1 }
+        ensures nodes { length self.new.model.nodes ≡ length self.old.model.nodes }
+        ensures events { OnOk result (length self.new.model.order ≡ length self.old.model.order + will_order self.old.model step.now) }
     {
         let at = usize::from(step.node) - 1;
         step_at(&mut self.seats, at, &mut self.group, &step.act)
@@ -124,10 +133,10 @@ ghost use Rattle.cluster_core.specs.Seated.{IsSeated};
 ghost use Rattle.cluster_core.specs.Acts.{nodes_of};
 
 // The seats of so many nodes at their start.
-fn seats_of(alloc: Global, id: &StateId, nodes: u8, gcache: u64) -> Result<Vec<Seat>, NoMemory>
-    requires id { id.now ≢ nil_id }
+fn seats_of(alloc: Global, id: StateId, nodes: u8, gcache: u64) -> Result<Vec<Seat>, NoMemory>
+    requires id { id ≢ nil_id }
     requires ring { gcache ≤ 16_777_216 }
-    ensures nodes { IfOk result (λ seats. nodes_of seats.items ≡ map (start_node id.now) (up_to nodes)) }
+    ensures nodes { IfOk result (λ seats. nodes_of seats.items ≡ map (start_node id) (up_to nodes)) }
     ensures seated { IfOk result (λ seats. (order : List Ordered) → AllByRecursion (IsSeated order) seats.items) }
 {
     let mut seats = Vec::new(alloc);
@@ -136,6 +145,3 @@ fn seats_of(alloc: Global, id: &StateId, nodes: u8, gcache: u64) -> Result<Vec<S
     }
     Ok(seats)
 }
-
-#[cfg(test)]
-mod tests;

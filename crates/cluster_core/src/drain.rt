@@ -1,12 +1,12 @@
-ghost use Rattle.std.specs.Prelude.{◌≡◌, ◌≤◌, ◌+◌, length, IfOk, OnErr, OnOk};
+ghost use Rattle.std.specs.Prelude.{◌≡◌, ◌≤◌, ◌+◌, length, IfOk, IfErr, OnErr, OnOk};
 ghost use Rattle.order_event.specs.declared.step.Act.TheVariants as act;
 ghost use Rattle.node_meaning.specs.Cluster.{node_orders};
-ghost use Rattle.node_meaning.specs.Steps.{commit_next};
 ghost use Rattle.node_core.specs.Stands.{plain_of};
+ghost use Rattle.cluster_core.specs.declared.fault.StepFault.TheVariants as fault;
 ghost use Rattle.cluster_core.specs.Seated.{IsSomewhere};
 ghost use Rattle.cluster_core.specs.Steps.{HasGroupCause};
 ghost use Rattle.cluster_core.specs.Acts.{IsKept, Acted, Failed};
-ghost use Rattle.cluster_core.specs.Drain.{Sent, Part, SomeDone, SeatParts, SeatSome, IsSomewhereShort, take_next, certify_next};
+ghost use Rattle.cluster_core.specs.Drain.{Sent, SentFew, Takes, TakesFew, Certifies, CertifiesFew, Commits, CommitsFew, IsSomewhereShort};
 
 use crate::fault::StepFault;
 use crate::seat::Seat;
@@ -16,12 +16,12 @@ use order_event::Answer;
 use wsrep_base::NoMemory;
 
 /// All that waits is ordered, and then everything is taken, certified and committed. A fault on
-/// the way leaves what was done.
+/// the way leaves what was done before it.
 pub(crate) fn drain<G: Group>(seat: &mut Seat, group: &mut G) -> Result<Answer, StepFault>
     requires kept { IsKept (G.order group.old) seat.old }
     requires events { length (G.order group.old) + node_orders act.Drain (plain_of seat.old.node) ≤ 500_000 }
     ensures ok { IfOk result (Acted act.Drain (G.order group.old) (G.order group.new) seat.old seat.new) }
-    ensures err { OnErr result (Failed act.Drain (G.order group.old) (G.order group.new) seat.old seat.new) }
+    ensures err { IfErr result (Failed act.Drain (G.order group.old) (G.order group.new) seat.old seat.new) }
     ensures cause { HasGroupCause (G.faults group.old) (G.faults group.new) result }
 {
     let waiting = seat.node.place().outbox;
@@ -40,7 +40,7 @@ fn order_all<G: Group>(seat: &mut Seat, group: &mut G, count: u64) -> Result<(),
     requires kept { IsKept (G.order group.old) seat.old }
     requires events { length (G.order group.old) + length seat.old.node.queue.outbox ≤ 500_000 }
     ensures ok { OnOk result (Sent count (G.order group.old) (G.order group.new) seat.old seat.new) }
-    ensures err { OnErr result (Failed act.Drain (G.order group.old) (G.order group.new) seat.old seat.new) }
+    ensures err { IfErr result (SentFew count (G.order group.old) (G.order group.new) seat.old seat.new) }
     ensures cause { HasGroupCause (G.faults group.old) (G.faults group.new) result }
 {
     for _ in 0..count {
@@ -54,8 +54,8 @@ fn take_all<G: Group>(seat: &mut Seat, group: &mut G, count: u64) -> Result<(), 
     requires kept { IsKept (G.order group.old) seat.old }
     requires events { length (G.order group.old) ≤ 500_000 }
     ensures order { G.order group.new ≡ G.order group.old }
-    ensures ok { OnOk result (Part (G.order group.old) (take_next (G.order group.old)) count seat.old seat.new) }
-    ensures err { OnErr result (SomeDone (G.order group.old) seat.old seat.new) }
+    ensures ok { OnOk result (Takes count (G.order group.old) seat.old seat.new) }
+    ensures err { IfErr result (TakesFew count (G.order group.old) seat.old seat.new) }
     ensures cause { HasGroupCause (G.faults group.old) (G.faults group.new) result }
 {
     for _ in 0..count {
@@ -67,8 +67,8 @@ fn take_all<G: Group>(seat: &mut Seat, group: &mut G, count: u64) -> Result<(), 
 // So many events are certified.
 fn certify_all(seat: &mut Seat, count: u64) -> Result<(), NoMemory>
     requires seated { IsSomewhere seat.old }
-    ensures ok { OnOk result (SeatParts certify_next count seat.old seat.new) }
-    ensures err { OnErr result (SeatSome seat.old seat.new) }
+    ensures ok { OnOk result (Certifies count seat.old seat.new) }
+    ensures err { OnErr result (CertifiesFew count seat.old seat.new fault.NoMemory) }
 {
     for _ in 0..count {
         seat.certify()?;
@@ -79,8 +79,8 @@ fn certify_all(seat: &mut Seat, count: u64) -> Result<(), NoMemory>
 // So many numbers are committed.
 fn commit_all(seat: &mut Seat, count: u64) -> Result<(), NoMemory>
     requires seated { IsSomewhereShort seat.old }
-    ensures ok { OnOk result (SeatParts commit_next count seat.old seat.new) }
-    ensures err { OnErr result (SeatSome seat.old seat.new) }
+    ensures ok { OnOk result (Commits count seat.old seat.new) }
+    ensures err { OnErr result (CommitsFew count seat.old seat.new fault.NoMemory) }
 {
     for _ in 0..count {
         commit_one(seat)?;
@@ -91,8 +91,8 @@ fn commit_all(seat: &mut Seat, count: u64) -> Result<(), NoMemory>
 // The next number is committed, its unit started and finished where it has one.
 fn commit_one(seat: &mut Seat) -> Result<(), NoMemory>
     requires seated { IsSomewhereShort seat.old }
-    ensures ok { OnOk result (SeatParts commit_next 1 seat.old seat.new) }
-    ensures err { OnErr result (SeatSome seat.old seat.new) }
+    ensures ok { OnOk result (Commits 1 seat.old seat.new) }
+    ensures err { OnErr result (CommitsFew 1 seat.old seat.new fault.NoMemory) }
 {
     let number = seat.node.committed() + 1;
     seat.start(number)?;

@@ -1,4 +1,4 @@
-ghost use Rattle.std.specs.Prelude.{◌≡◌, ◌≢◌, ◌≤◌, ◌<◌, ◌^◌, List, IfOk, OnErr, IsTrue};
+ghost use Rattle.std.specs.Prelude.{◌≡◌, ◌≢◌, ◌≤◌, ◌<◌, ◌^◌, List, IfOk, OnOk, OnErr, IsTrue};
 
 use apply_unit::Done;
 use node_core::{Advanced, Certified, Node, Started, Taken};
@@ -25,19 +25,21 @@ impl Seat {
     ghost use Rattle.node_meaning.specs.Node.{start_node};
     ghost use Rattle.node_meaning.specs.Steps.{node_step};
     ghost use Rattle.node_core.specs.Stands.{plain_of};
+    ghost use Rattle.node_core.specs.Memory.{CallWants, TakeWants, CertifyWants, StartWants};
     ghost use Rattle.cluster_core.specs.State.{CanGoOn};
     ghost use Rattle.cluster_core.specs.Seated.{IsSeated, IsSomewhere, SeatDoes, SeatTakes, SeatUnchanged};
+    ghost use Rattle.std.specs.HashMap.{spare};
 
     /// A node at its start, with no unit.
     pub(crate) fn new(
         alloc: Global,
-        id: &StateId,
+        id: StateId,
         member: u32,
         gcache: u64,
     ) -> Result<Seat, NoMemory>
-        requires id { id.now ≢ nil_id }
+        requires id { id ≢ nil_id }
         requires ring { gcache ≤ 16_777_216 }
-        ensures start { IfOk result (λ seat. plain_of seat.node ≡ start_node id.now member) }
+        ensures start { IfOk result (λ seat. plain_of seat.node ≡ start_node id member) }
         ensures seated { IfOk result (λ seat. (order : List Ordered) → IsSeated order seat) }
     {
         Ok(Seat {
@@ -54,6 +56,7 @@ impl Seat {
         requires counts { CanGoOn (plain_of self.old.node) }
         ensures ok { IfOk result (SeatDoes (λ order n. node_step order n (act.Client session call.now)) self.old self.new) }
         ensures err { OnErr result (SeatUnchanged self.old self.new) }
+        ensures memory { OnErr result (CallWants (plain_of self.old.node) session call.now) }
     {
         let reply = self.node.client(session, call)?;
         Ok(Answer::Client(reply))
@@ -66,6 +69,7 @@ impl Seat {
         requires members { HasFewMembers event.now }
         ensures ok { IfOk result (SeatTakes event.now self.old self.new) }
         ensures err { OnErr result (SeatUnchanged self.old self.new) }
+        ensures memory { OnErr result (TakeWants (plain_of self.old.node)) }
     {
         let taken = self.node.take(event)?;
         Ok(taken_answer(taken))
@@ -76,6 +80,7 @@ impl Seat {
         requires seated { IsSomewhere self.old }
         ensures ok { IfOk result (SeatDoes (λ order n. node_step order n act.Certify) self.old self.new) }
         ensures err { OnErr result (SeatUnchanged self.old self.new) }
+        ensures memory { OnErr result (CertifyWants (plain_of self.old.node)) }
     {
         let certified = self.node.certify()?;
         Ok(certified_answer(certified))
@@ -86,10 +91,23 @@ impl Seat {
         requires seated { IsSomewhere self.old }
         ensures ok { IfOk result (SeatDoes (λ order n. node_step order n (act.Start number)) self.old self.new) }
         ensures err { OnErr result (SeatUnchanged self.old self.new) }
+        ensures memory { OnErr result ((order : List Ordered) → IsSeated order self.old → StartWants order (plain_of self.old.node) number) }
     {
-        self.done.reserve(1)?;
+        self.make_room(number)?;
         let started = self.node.start(number)?;
         Ok(keep(&mut self.done, number, started))
+    }
+
+    // Makes room for the work of the unit, where it can start.
+    fn make_room(&mut self, number: u64) -> Result<(), NoMemory>
+        ensures room { OnOk result ((order : List Ordered) → IsSeated order self.old → StartWants order (plain_of self.old.node) number → 0 < spare self.new.done) }
+        ensures same { SeatUnchanged self.old self.new }
+        ensures memory { OnErr result ((order : List Ordered) → IsSeated order self.old → StartWants order (plain_of self.old.node) number) }
+    {
+        if self.node.can_start(number) {
+            self.done.reserve(1)?;
+        }
+        Ok(())
     }
 
     /// The work of the unit with this number is given to the node.
@@ -117,6 +135,7 @@ impl Seat {
 
 ghost use Rattle.std.specs.HashMap.{spare};
 ghost use Rattle.node_core.specs.Answers.{taken_answer, certified_answer, started_answer, advanced_answer};
+ghost use Rattle.node_core.specs.Memory.{is_start};
 ghost use Rattle.cluster_core.specs.Seated.{KeepsTask};
 
 fn taken_answer(taken: Taken) -> Answer
@@ -150,7 +169,7 @@ fn advanced_answer(advanced: Advanced) -> Answer
 
 // The work of a unit that was started is done and kept. There is room for it.
 fn keep(done: &mut HashMap<u64, Done>, number: u64, started: Started) -> Answer
-    requires { 0 < spare done.old }
+    requires { IsTrue (is_start (started_answer number started)) → 0 < spare done.old }
     ensures answer { result ≡ started_answer number started }
     ensures kept { KeepsTask number started done.old.entries done.new.entries }
 {

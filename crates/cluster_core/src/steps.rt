@@ -1,11 +1,11 @@
-ghost use Rattle.std.specs.Prelude.{◌≡◌, ◌≤◌, ◌<◌, ◌+◌, length, slice_get, Some, IfOk, OnErr, IsTrue};
+ghost use Rattle.std.specs.Prelude.{◌≡◌, ◌≤◌, ◌<◌, ◌+◌, length, slice_get, Some, IfOk, IfErr, OnErr, IsTrue};
 ghost use Rattle.order_event.specs.declared.step.Act.TheVariants as act;
 ghost use Rattle.order_event.specs.Fits.{act_fits};
 ghost use Rattle.node_meaning.specs.Node.{ModelNode};
 ghost use Rattle.node_meaning.specs.Cluster.{node_orders, orders_at, step_at};
 ghost use Rattle.node_core.specs.Stands.{plain_of};
 ghost use Rattle.cluster_core.specs.State.{CanGoOn};
-ghost use Rattle.cluster_core.specs.Steps.{has_session, LeftBy, HasGroupCause};
+ghost use Rattle.cluster_core.specs.Steps.{has_session, LeftBy, WantedBy, AtNoMemory, HasGroupCause};
 ghost use Rattle.cluster_core.specs.Acts.{IsKept, AreKept, Acted, Failed, cluster_of, nodes_of};
 
 use crate::drain::drain;
@@ -30,6 +30,8 @@ pub(crate) fn step_at<G: Group>(
         ≡ step_at (cluster_of (G.order group.old) (nodes_of seats.old.items)) at (slice_get (nodes_of seats.old.items) at) act.now) }
     ensures err { OnErr result (LeftBy act.now (at + 1) (cluster_of (G.order group.old) (nodes_of seats.old.items))
         (cluster_of (G.order group.new) (nodes_of seats.new.items))) }
+    ensures memory { IfErr result (AtNoMemory (WantedBy act.now (at + 1) (cluster_of (G.order group.old) (nodes_of seats.old.items))
+        (cluster_of (G.order group.new) (nodes_of seats.new.items)))) }
     ensures kept { AreKept (G.order group.new) seats.new.items }
     ensures cause { HasGroupCause (G.faults group.old) (G.faults group.new) result }
 {
@@ -47,7 +49,7 @@ pub(crate) fn step_on<G: Group>(
     requires events { length (G.order group.old) + node_orders act.now (plain_of seat.old.node) ≤ 500_000 }
     requires counts { CanGoOn (plain_of seat.old.node) }
     ensures ok { IfOk result (Acted act.now (G.order group.old) (G.order group.new) seat.old seat.new) }
-    ensures err { OnErr result (Failed act.now (G.order group.old) (G.order group.new) seat.old seat.new) }
+    ensures err { IfErr result (Failed act.now (G.order group.old) (G.order group.new) seat.old seat.new) }
     ensures cause { HasGroupCause (G.faults group.old) (G.faults group.new) result }
 {
     match act {
@@ -72,7 +74,7 @@ pub(crate) fn order_first<G: Group>(seat: &mut Seat, group: &mut G) -> Result<An
     requires kept { IsKept (G.order group.old) seat.old }
     requires events { length (G.order group.old) + node_orders act.Order (plain_of seat.old.node) ≤ 500_000 }
     ensures ok { IfOk result (Acted act.Order (G.order group.old) (G.order group.new) seat.old seat.new) }
-    ensures err { OnErr result (Failed act.Order (G.order group.old) (G.order group.new) seat.old seat.new) }
+    ensures err { IfErr result (Failed act.Order (G.order group.old) (G.order group.new) seat.old seat.new) }
     ensures cause { HasGroupCause (G.faults group.old) (G.faults group.new) result }
 {
     let member = seat.node.place().member;
@@ -84,14 +86,18 @@ pub(crate) fn order_first<G: Group>(seat: &mut Seat, group: &mut G) -> Result<An
     Ok(Answer::Ordered(number))
 }
 
-/// The next event of the order is taken, where there is one.
+/// The next event of the order is taken, where there is one. A node that is not connected asks the
+/// group for none.
 pub(crate) fn take_next<G: Group>(seat: &mut Seat, group: &mut G) -> Result<Answer, StepFault>
     requires kept { IsKept (G.order group.old) seat.old }
     requires events { length (G.order group.old) ≤ 500_000 }
     ensures ok { IfOk result (Acted act.Take (G.order group.old) (G.order group.new) seat.old seat.new) }
-    ensures err { OnErr result (Failed act.Take (G.order group.old) (G.order group.new) seat.old seat.new) }
+    ensures err { IfErr result (Failed act.Take (G.order group.old) (G.order group.new) seat.old seat.new) }
     ensures cause { HasGroupCause (G.faults group.old) (G.faults group.new) result }
 {
+    if !seat.node.is_connected() {
+        return Ok(Answer::Nothing);
+    }
     match group.event(seat.node.taken() + 1)? {
         Some(event) => Ok(seat.take(&event)?),
         None => Ok(Answer::Nothing),

@@ -1,8 +1,9 @@
-pub mod ClusterCounts
 pub mod Endings
+pub mod FirstLines
 pub mod LineLaws
 pub mod Openings
 pub mod Readings
+pub mod ScheduleLaws
 pub mod Sources
 pub mod Statuses
 pub mod Writes

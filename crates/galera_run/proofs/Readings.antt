@@ -14,8 +14,8 @@ use Rattle.galera_run.specs.declared.fault.RunFault.TheVariants as stop
 use Rattle.galera_run.specs.Lines.{lines_to, last_line}
 use Rattle.galera_run.specs.Reading.{Told, front, follows, told_from, line_at, answer_line, most_bytes}
 use Rattle.galera_run.specs.Writing.{AppendsFront}
-use Rattle.galera_run.specs.Feeding.{told_by, GoesOn, IsRefused, Feeds, Refuses, CutsShort, Runs, RunsCut, LineStops, Stops}
-use Rattle.galera_run.proofs.Writes.{appends_nothing, appends_both, keeps_appends, front_of_nothing}
+use Rattle.galera_run.specs.Feeding.{told_by, GoesOn, IsRefused, Feeds, Refuses, CutsShort, Halts, Runs, RunsCut, LineStops, Stops}
+use Rattle.galera_run.proofs.Writes.{appends_nothing, appends_both, keeps_appends}
 
 pub front_both : (x y : List ℕ) (told : Told) → front x (front y told) ≡ front (x ++ y) told
 front_both x y told = ap (λ (z : List ℕ). let t : Told = record { text = z; reached = told.reached } in t) (sym (append_assoc x y told.text))
@@ -176,8 +176,30 @@ cut_there p q b v w e r = λ bytes.
     let g = newline_goes p r.after q b r.answer e r.is_answer in
     rw (g.rest last_line bytes) (front_of_more v w (answer_line p r.answer) _ r.written)
 
-pub nothing_written : (s : Script) (t : List ℕ) (v w : Option (List ℕ)) → Keeps v w → CutsShort s t v w
-nothing_written s t v w k = λ bytes. front_of_nothing v w (told_by last_line s (t ++ bytes)).text k
+-- no memory before anything was written
+pub halts_there : (s : Script) (t : List ℕ) (v w : Option (List ℕ)) → Keeps v w → Halts s t v w
+halts_there s t v w k = record {
+  fed = [];
+  after = s;
+  is_front = (t, refl);
+  feeds = record { text = []; written = keeps_appends v w k; goes_on = goes_nothing s };
+}
+
+pub halts_later : (a b : Script) (s t : List ℕ) (u v w : Option (List ℕ)) → Feeds a b s u v → Halts b t v w → Halts a (s ++ t) u w
+halts_later a b s t u v w p q = record {
+  fed = s ++ q.fed;
+  after = q.after;
+  is_front = (q.is_front.0, ap (λ z. s ++ z) q.is_front.1 ∙ sym (append_assoc s q.fed q.is_front.0));
+  feeds = feeds_both a b q.after s q.fed u v w p q.feeds;
+}
+
+halts_early : (s : Script) (t rest : List ℕ) (v w : Option (List ℕ)) → Halts s t v w → Halts s (t ++ rest) v w
+halts_early s t rest v w h = record {
+  fed = h.fed;
+  after = h.after;
+  is_front = (h.is_front.0 ++ rest, ap (λ z. z ++ rest) h.is_front.1 ∙ append_assoc h.fed h.is_front.0 rest);
+  feeds = h.feeds;
+}
 
 refuses_there : (p : Place) (q : List ℕ) (b : ℕ) (v w : Option (List ℕ)) (number : ℕ) (c : ScriptCause) → (b == 10) ≡ true →
     (number ≡ p.number) × (line_at p (q ++ b ∷ []) ≡ Err c) × Keeps v w →
@@ -194,7 +216,7 @@ pub line_stops : (p : Place) (q : List ℕ) (b : ℕ) (v w : Option (List ℕ)) 
 line_stops p q b v w (stop.Script number c) e h = refuses_there p q b v w number c e h
 line_stops p q b v w stop.Read e h = absurd h
 line_stops p q b v w stop.Write e h = cut_there p q b v w e h
-line_stops p q b v w stop.NoMemory e h = nothing_written _ (b ∷ []) v w h
+line_stops p q b v w stop.NoMemory e h = halts_there _ (b ∷ []) v w h
 
 -- a stop behind bytes that went well
 pub stops_later : (a b : Script) (s t : List ℕ) (u v w : Option (List ℕ)) (f : RunFault) → Feeds a b s u v →
@@ -202,7 +224,7 @@ pub stops_later : (a b : Script) (s t : List ℕ) (u v w : Option (List ℕ)) (f
 stops_later a b s t u v w (stop.Script number c) p q = feeds_refuses a b s t u v w number c p q
 stops_later a b s t u v w stop.Read p q = absurd q
 stops_later a b s t u v w stop.Write p q = feeds_cuts a b s t u v w p q
-stops_later a b s t u v w stop.NoMemory p q = feeds_cuts a b s t u v w p q
+stops_later a b s t u v w stop.NoMemory p q = halts_later a b s t u v w p q
 
 cuts_early : (s : Script) (t rest : List ℕ) (v w : Option (List ℕ)) → CutsShort s t v w → CutsShort s (t ++ rest) v w
 cuts_early s t rest v w h = λ bytes. rw (append_assoc t rest bytes) (h (rest ++ bytes))
@@ -221,7 +243,7 @@ pub stops_early : (s : Script) (t rest : List ℕ) (v w : Option (List ℕ)) (f 
 stops_early s t rest v w (stop.Script number c) h = refused_early s t rest v w number c h
 stops_early s t rest v w stop.Read h = h
 stops_early s t rest v w stop.Write h = cuts_early s t rest v w h
-stops_early s t rest v w stop.NoMemory h = cuts_early s t rest v w h
+stops_early s t rest v w stop.NoMemory h = halts_early s t rest v w h
 
 -- the bytes before one of a piece, it, and those behind it
 piece_parts : (i : ℕ) (piece : List ℕ) → i < length piece →

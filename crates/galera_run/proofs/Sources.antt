@@ -1,7 +1,7 @@
 -- how reading from a source adds up, and what a whole run is
-use Rattle.std.proofs.Common.{◌≡◌, ℕ, List, [], ◌++◌, refl, sym, ap, ◌∙◌, append_assoc, subst}
+use Rattle.std.proofs.Common.{◌≡◌, ℕ, List, [], ◌++◌, refl, sym, ap, ◌∙◌, append_assoc, subst, inl, inr}
 use Rattle.std.specs.Prelude.{Option, Some, None}
-use Rattle.std.specs.Io.KnownBytes.{Keeps, Consumes, IsAtEnd}
+use Rattle.std.specs.Io.KnownBytes.{Appends, Keeps, Consumes, IsAtEnd}
 use Rattle.std.proofs.lemmas.List.{append-nil}
 use Rattle.script_text.specs.declared.line.ScriptCause.{ScriptCause}
 use Rattle.galera_run.specs.declared.fault.Finished.{Finished}
@@ -9,12 +9,14 @@ use Rattle.galera_run.specs.declared.fault.RunFault.{RunFault}
 use Rattle.galera_run.specs.declared.fault.RunFault.TheVariants as stop
 use Rattle.galera_run.specs.declared.script.Script.{Script}
 use Rattle.galera_run.specs.Lines.{last_line, no_line}
-use Rattle.galera_run.specs.Reading.{Told, Run, start, run_told, run_of, text_so_far, fault}
+use Rattle.galera_run.specs.Reading.{Told, Run, start, run_told, run_of, text_so_far, first_text, fault}
 use Rattle.galera_run.specs.Writing.{AppendsFront}
-use Rattle.galera_run.specs.Feeding.{told_by, Stops, Reads, ReadsRefused, ReadsCut, ReadStops}
-use Rattle.galera_run.specs.Outcome.{TellsAll, TellsRefusal, TellsRead, EndStops, RunTells, RunStops}
-use Rattle.galera_run.proofs.Readings.{feeds_nothing, feeds_both, feeds_refuses, feeds_cuts, front_of_more}
-use Rattle.galera_run.proofs.Endings.{run_behind, run_front, tells_behind, stops_behind}
+use Rattle.galera_run.specs.Feeding.{told_by, Stops, Halts, Reads, ReadsRefused, ReadsCut, ReadsHalted, ReadStops}
+use Rattle.galera_run.specs.Outcome.{TellsAll, TellsRefusal, TellsRead, TellsFirst, EndStops, RunTells, RunStops}
+use Rattle.galera_run.proofs.Writes.{appends_both}
+use Rattle.galera_run.proofs.Readings.{feeds_nothing, feeds_both, feeds_refuses, feeds_cuts, front_later, front_of_more, halts_later, halts_there}
+use Rattle.galera_run.proofs.Endings.{run_behind, run_front, tells_behind, refusal_behind}
+use Rattle.galera_run.proofs.FirstLines.{first, tells_all_lines, halts_first}
 
 keeps_consumes : (a b : Option (List ℕ)) → Keeps a b → Consumes a b []
 keeps_consumes None b p = tt
@@ -55,12 +57,20 @@ cut_then a b c s t u v w p q = record {
   cuts = feeds_cuts s t p.taken q.taken u v w p.feeds q.cuts;
 }
 
+halted_then : (a b c : Option (List ℕ)) (s t : Script) (u v w : Option (List ℕ)) →
+    Reads a b s t u v → ReadsHalted b c t v w → ReadsHalted a c s u w
+halted_then a b c s t u v w p q = record {
+  taken = p.taken ++ q.taken;
+  consumed = consumes_both a b c p.taken q.taken p.consumed q.consumed;
+  halts = halts_later s t p.taken q.taken u v w p.feeds q.halts;
+}
+
 pub reads_stop : (a b c : Option (List ℕ)) (s t : Script) (u v w : Option (List ℕ)) (f : RunFault) →
     Reads a b s t u v → ReadStops b c t v w f → ReadStops a c s u w f
 reads_stop a b c s t u v w (stop.Script n e) p q = refused_then a b c s t u v w n e p q
 reads_stop a b c s t u v w stop.Read p q = (q.0, reads_both a b c s t q.0 u v w p q.1)
 reads_stop a b c s t u v w stop.Write p q = cut_then a b c s t u v w p q
-reads_stop a b c s t u v w stop.NoMemory p q = cut_then a b c s t u v w p q
+reads_stop a b c s t u v w stop.NoMemory p q = halted_then a b c s t u v w p q
 
 -- a piece in which the run stopped
 pub piece_stops : (a b : Option (List ℕ)) (s : Script) (t : List ℕ) (v w : Option (List ℕ)) (f : RunFault) →
@@ -68,11 +78,7 @@ pub piece_stops : (a b : Option (List ℕ)) (s : Script) (t : List ℕ) (v w : O
 piece_stops a b s t v w (stop.Script n e) k h = record { taken = t; consumed = k; refuses = h }
 piece_stops a b s t v w stop.Read k h = absurd h
 piece_stops a b s t v w stop.Write k h = record { taken = t; consumed = k; cuts = h }
-piece_stops a b s t v w stop.NoMemory k h = record { taken = t; consumed = k; cuts = h }
-
--- before the first byte
-abbrev pub first : Script
-first = record { place = start; pending = [] }
+piece_stops a b s t v w stop.NoMemory k h = record { taken = t; consumed = k; halts = h }
 
 -- all was read: the whole run is what is left to tell behind what was printed
 whole : (input ys : List ℕ) (s : Script) (u v : Option (List ℕ)) (r : Reads (Some input) (Some ys) first s u v) → ys ≡ [] →
@@ -93,30 +99,35 @@ run_tells (Some input) (Some ys) s u v w done r e t =
     subst P (sym (whole input ys s u v r e))
     (tells_behind u v w r.feeds.text (run_told (told_by last_line s [])) done r.feeds.written t)
 
--- the ways in which a run stops at the end of its input are ways in which a run stops
-end_is_stop : (input ys : List ℕ) (u w : Option (List ℕ)) (f : RunFault) → EndStops (run_of input) u w f →
-    RunStops (Some input) (Some ys) u w f
-end_is_stop input ys u w (stop.Script n e) h = h
-end_is_stop input ys u w stop.Read h = absurd h
-end_is_stop input ys u w stop.Write h = h
-end_is_stop input ys u w stop.NoMemory h = h
-
-end_untold : (b : Option (List ℕ)) (s : Script) (run : Run) (u v w : Option (List ℕ)) (f : RunFault) → EndStops run v w f →
-    RunStops None b u w f
-end_untold b s run u v w (stop.Script n e) h = tt
-end_untold b s run u v w stop.Read h = absurd h
-end_untold b s run u v w stop.Write h = tt
-end_untold b s run u v w stop.NoMemory h = tt
+-- the ways in which a run stops at the end of its input, where what was read printed the text before
+end_stops : (input ys : List ℕ) (s : Script) (u v w : Option (List ℕ)) (f : RunFault) (r : Reads (Some input) (Some ys) first s u v) →
+    ys ≡ [] → EndStops (told_by last_line s []) v w f → RunStops (Some input) (Some ys) u w f
+end_stops input ys s u v w (stop.Script n e) r none t =
+    let P : Run → Type 0 = λ run. TellsRefusal run u w n e in
+    subst P (sym (whole input ys s u v r none))
+    (refusal_behind u v w r.feeds.text (run_told (told_by last_line s [])) n e r.feeds.written t)
+end_stops input ys s u v w stop.Read r none t = absurd t
+end_stops input ys s u v w stop.Write r none t =
+    let P : Run → Type 0 = λ run. AppendsFront u w run.text in
+    subst P (sym (whole input ys s u v r none))
+    (front_later u v w r.feeds.text (run_told (told_by last_line s [])).text r.feeds.written t)
+end_stops input ys s u v w stop.NoMemory r none (inl k) =
+    halts_first input r.taken ys u w r.consumed
+    (subst (λ z. Halts first z u w) (append-nil r.taken) (halts_later first s r.taken [] u v w r.feeds (halts_there s [] v w k)))
+end_stops input ys s u v w stop.NoMemory r none (inr told) =
+    let all : input ≡ r.taken ++ [] = r.consumed ∙ ap (λ z. r.taken ++ z) none in
+    tells_all_lines input u w
+    (subst (λ (t : Told). Appends u w t.text) (sym (ap (told_by last_line first) all ∙ r.feeds.goes_on.rest last_line []))
+    (appends_both u v w r.feeds.text (told_by last_line s []).text r.feeds.written told))
 
 pub run_ends : (a b : Option (List ℕ)) (s : Script) (u v w : Option (List ℕ)) (f : RunFault) → Reads a b first s u v →
-    IsAtEnd b → EndStops (run_told (told_by last_line s [])) v w f → RunStops a b u w f
-run_ends None b s u v w f r e t = end_untold b s (run_told (told_by last_line s [])) u v w f t
-run_ends (Some input) None s u v w f r e t = absurd r.consumed
-run_ends (Some input) (Some ys) s u v w f r e t =
-    let P : Run → Type 0 = λ run. EndStops run u w f in
-    end_is_stop input ys u w f
-    (subst P (sym (whole input ys s u v r e))
-    (stops_behind u v w r.feeds.text (run_told (told_by last_line s [])) f r.feeds.written t))
+    IsAtEnd b → EndStops (told_by last_line s []) v w f → RunStops a b u w f
+run_ends None b s u v w (stop.Script n e) r end t = tt
+run_ends None b s u v w stop.Read r end t = absurd t
+run_ends None b s u v w stop.Write r end t = tt
+run_ends None b s u v w stop.NoMemory r end t = tt
+run_ends (Some input) None s u v w f r end t = absurd r.consumed
+run_ends (Some input) (Some ys) s u v w f r end t = end_stops input ys s u v w f r end t
 
 refused_run : (input ys : List ℕ) (u w : Option (List ℕ)) (n : ℕ) (e : ScriptCause) →
     ReadsRefused (Some input) (Some ys) first u w n e → TellsRefusal (run_of input) u w n e
@@ -157,7 +168,7 @@ run_stops (Some input) None u w stop.Write r = absurd r.consumed
 run_stops (Some input) None u w stop.NoMemory r = absurd r.consumed
 run_stops (Some input) (Some ys) u w (stop.Script n e) r = refused_run input ys u w n e r
 run_stops (Some input) (Some ys) u w stop.Write r = cut_run input ys u w r
-run_stops (Some input) (Some ys) u w stop.NoMemory r = cut_run input ys u w r
+run_stops (Some input) (Some ys) u w stop.NoMemory r = halts_first input r.taken ys u w r.consumed r.halts
 
 -- a list that was made empty
 pub reads_first : (a b : Option (List ℕ)) (q : List ℕ) (s : Script) (u w : Option (List ℕ)) → q ≡ [] →

@@ -38,7 +38,7 @@ before_the_first_view = refl
 
 -- one session commits one row
 first_commit :
-    (run_of (header ++ codes "1 take\n1 certify\n1 advance\n1.1 begin\n1.1 insert acct a 100\n1.1 commit\n1 order\n1 take\n1 certify\n1 advance\n1.1 poll\n")).text
+    (run_of (codes "cluster 1 gcache 65536 id 00000000-0000-0000-0000-0000000000a1\n1 take\n1 certify\n1 advance\n1.1 begin\n1.1 insert acct a 100\n1.1 commit\n1 order\n1 take\n1 certify\n1 advance\n1.1 poll\n")).text
     ≡ codes "2 TOOK 1\n3 VIEW 1\n4 AT 1\n5 OK\n6 OK\n7 PENDING\n8 ORDERED 2\n9 TOOK 2\n10 PASS 2 COMMIT\n11 AT 2\n12 COMMITTED 2\nnode 1 at 2\nrow acct a 100\n"
 unfolding computing_text
 first_commit = refl

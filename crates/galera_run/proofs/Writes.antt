@@ -51,9 +51,6 @@ sends_front a b c all rest s f = record {
   is_front = (f.is_front.0, s.parts ∙ ap (λ z. s.sent ++ z) f.is_front.1 ∙ sym (append_assoc s.sent f.text f.is_front.0));
 }
 
-pub front_of_nothing : (b c : Option (List ℕ)) (all : List ℕ) → Keeps b c → AppendsFront b c all
-front_of_nothing b c all k = record { text = []; written = keeps_appends b c k; is_front = (all, refl) }
-
 -- what `&rest[n..]` is
 pub drop_rest : (n : ℕ) (rest : List ℕ) → take (length rest - n) (drop n rest) ≡ drop n rest
 drop_rest n rest = rw (← length-drop n rest) (take-length (drop n rest))

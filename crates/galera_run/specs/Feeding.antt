@@ -1,11 +1,11 @@
 -- reading in pieces: what a piece printed, whatever follows it
-use Rattle.std.specs.Prelude.{◌≡◌, ◌≢◌, ◌≤◌, ◌<◌, ℕ, ◌+◌, List, ◌++◌, length, slice_get, Option, Some, None, Result, Ok, Err, MatchResult}
+use Rattle.std.specs.Prelude.{◌≡◌, ◌≢◌, ◌≤◌, ◌<◌, ℕ, ◌+◌, List, ◌++◌, length, Option, Some, None, Result, Ok, Err, MatchResult}
 use Rattle.std.specs.Io.KnownBytes.{Appends, Keeps, Consumes}
 use Rattle.outside_io.specs.Outside.{Rose}
 use Rattle.wsrep_base.specs.StateId.{nil_id}
 use Rattle.order_event.specs.declared.step.Answer.{Answer}
-use Rattle.node_meaning.specs.Node.{ModelNode}
 use Rattle.node_meaning.specs.Cluster.{start_cluster}
+use Rattle.cluster_core.specs.Counted.{given}
 use Rattle.script_text.specs.declared.line.ScriptCause.{ScriptCause}
 use Rattle.script_text.specs.declared.line.Header.{Header}
 use Rattle.script_text.specs.Steps.{IsHeader}
@@ -18,19 +18,15 @@ use Rattle.galera_run.specs.declared.line.LineFault.{LineFault}
 use Rattle.galera_run.specs.declared.line.LineFault.TheVariants as fails
 use Rattle.galera_run.specs.Lines.{lines_to, last_line}
 use Rattle.galera_run.specs.Reading.{Told, opened, fault, front, told_from, line_at, answer_line, most_bytes, most_steps, most_events}
-use Rattle.galera_run.specs.Writing.{AppendsFront}
+use Rattle.galera_run.specs.Writing.{IsFrontOf, AppendsFront}
 
--- a node gave out at most one serial and one begin number for each step
-pub record HasGiven (steps : ℕ) (n : ModelNode) : Type 0 where
-  pub serial : n.at.serial ≤ steps + 1
-  pub begin : n.at.begin ≤ steps + 1
-
--- a cluster of so many nodes, with its counts within their limits, over a group that never failed
+-- a cluster of so many nodes, with its counts within their limits, over a group that never failed; what it has given out is no
+-- more than one for each step
 pub record IsCounted (steps : ℕ) (o : Opened) : Type 0 where
   pub nodes : length o.cluster.model.nodes ≡ o.nodes
   pub events : length o.cluster.model.order ≤ most_events
   pub faults : o.cluster.faults ≡ 0
-  pub given : (i : ℕ) (n : ModelNode) → slice_get o.cluster.model.nodes i ≡ Some n → HasGiven steps n
+  pub within : given o.cluster.model ≤ steps + 1
 
 abbrev pub IsCountedIn : ℕ → Option Opened → Type 0
 IsCountedIn steps None = Unit {0}
@@ -82,12 +78,19 @@ abbrev pub CutsShort : Script → List ℕ → Option (List ℕ) → Option (Lis
 CutsShort before taken old new =
     (bytes : List ℕ) → AppendsFront old new (told_by last_line before (taken ++ bytes)).text
 
+-- the text of the whole lines of some first bytes was written, and no more
+pub record Halts (before : Script) (taken : List ℕ) (old new : Option (List ℕ)) : Type 0 where
+  pub fed : List ℕ
+  pub after : Script
+  pub is_front : IsFrontOf fed taken
+  pub feeds : Feeds before after fed old new
+
 -- how the reading of the bytes may stop; it reads from no source
 abbrev pub Stops : Script → List ℕ → Option (List ℕ) → Option (List ℕ) → RunFault → Type 0
 Stops before taken old new (stop.Script number c) = Refuses before taken old new number c
 Stops before taken old new stop.Read = ⊥
 Stops before taken old new stop.Write = CutsShort before taken old new
-Stops before taken old new stop.NoMemory = CutsShort before taken old new
+Stops before taken old new stop.NoMemory = Halts before taken old new
 
 -- a run over a source read some of its bytes
 pub record Reads (left_old left_new : Option (List ℕ)) (before after : Script) (old new : Option (List ℕ)) : Type 0 where
@@ -107,12 +110,18 @@ pub record ReadsCut (left_old left_new : Option (List ℕ)) (before : Script) (o
   pub consumed : Consumes left_old left_new taken
   pub cuts : CutsShort before taken old new
 
+-- and had no memory there
+pub record ReadsHalted (left_old left_new : Option (List ℕ)) (before : Script) (old new : Option (List ℕ)) : Type 0 where
+  pub taken : List ℕ
+  pub consumed : Consumes left_old left_new taken
+  pub halts : Halts before taken old new
+
 -- how a run over a source may stop before its end
 abbrev pub ReadStops : Option (List ℕ) → Option (List ℕ) → Script → Option (List ℕ) → Option (List ℕ) → RunFault → Type 0
 ReadStops left_old left_new before old new (stop.Script number c) = ReadsRefused left_old left_new before old new number c
 ReadStops left_old left_new before old new stop.Read = (after : Script) × Reads left_old left_new before after old new
 ReadStops left_old left_new before old new stop.Write = ReadsCut left_old left_new before old new
-ReadStops left_old left_new before old new stop.NoMemory = ReadsCut left_old left_new before old new
+ReadStops left_old left_new before old new stop.NoMemory = ReadsHalted left_old left_new before old new
 
 -- the next line is within the bytes allowed, and a cluster of its own is within its counts
 pub record IsRoomFor (p : Place) (line : List ℕ) (state : Option Opened) : Type 0 where

@@ -4,3 +4,4 @@ pub mod Writing
 pub mod Feeding
 pub mod Outcome
 pub mod Program
+pub mod Schedules

@@ -1,13 +1,13 @@
 -- what the top calls promise of a run over a source and a sink
-use Rattle.std.specs.Prelude.{◌≡◌, ℕ, List, length, Option, IfSome}
-use Rattle.std.specs.Io.KnownBytes.{Appends, Consumes}
+use Rattle.std.specs.Prelude.{◌≡◌, ◌⊎◌, ℕ, List, length, Option, IfSome}
+use Rattle.std.specs.Io.KnownBytes.{Appends, Consumes, Keeps}
 use Rattle.script_text.specs.declared.line.ScriptCause.{ScriptCause}
 use Rattle.node_meaning.specs.Cluster.{ModelCluster}
 use Rattle.galera_run.specs.declared.fault.RunFault.{RunFault}
 use Rattle.galera_run.specs.declared.fault.RunFault.TheVariants as stop
 use Rattle.galera_run.specs.declared.fault.Finished.{Finished}
-use Rattle.galera_run.specs.Reading.{Run, finished, refused, run_of, text_so_far}
-use Rattle.galera_run.specs.Writing.{AppendsFront}
+use Rattle.galera_run.specs.Reading.{Told, Run, finished, refused, run_told, run_of, first_text, text_so_far}
+use Rattle.galera_run.specs.Writing.{IsFrontOf, AppendsFront}
 
 -- the run comes to the end of its input, with so many steps and events
 pub record IsFinished (run : Run) (done : Finished) : Type 0 where
@@ -25,12 +25,18 @@ pub record TellsRefusal (run : Run) (old new : Option (List ℕ)) (number : ℕ)
   pub ending : run.ending ≡ refused number c
   pub written : Appends old new run.text
 
--- how a run may stop at the end of its input
-abbrev pub EndStops : Run → Option (List ℕ) → Option (List ℕ) → RunFault → Type 0
-EndStops run old new (stop.Script number c) = TellsRefusal run old new number c
-EndStops run old new stop.Read = ⊥
-EndStops run old new stop.Write = AppendsFront old new run.text
-EndStops run old new stop.NoMemory = AppendsFront old new run.text
+-- how a run may stop at the end of its input; without memory the last line's text was written, or nothing
+abbrev pub EndStops : Told → Option (List ℕ) → Option (List ℕ) → RunFault → Type 0
+EndStops told old new (stop.Script number c) = TellsRefusal (run_told told) old new number c
+EndStops told old new stop.Read = ⊥
+EndStops told old new stop.Write = AppendsFront old new (run_told told).text
+EndStops told old new stop.NoMemory = Keeps old new ⊎ Appends old new told.text
+
+-- the text of the first lines was written, which is a front of the whole text
+pub record TellsFirst (input : List ℕ) (old new : Option (List ℕ)) : Type 0 where
+  pub count : ℕ
+  pub written : Appends old new (first_text count input)
+  pub is_front : IsFrontOf (first_text count input) (run_of input).text
 
 -- these bytes were read, and the text of their lines was written
 pub record TellsRead (left_old left_new old new : Option (List ℕ)) : Type 0 where
@@ -48,4 +54,4 @@ RunStops left_old left_new old new (stop.Script number c) =
     IfSome left_old (λ input. TellsRefusal (run_of input) old new number c)
 RunStops left_old left_new old new stop.Read = TellsRead left_old left_new old new
 RunStops left_old left_new old new stop.Write = IfSome left_old (λ input. AppendsFront old new (run_of input).text)
-RunStops left_old left_new old new stop.NoMemory = IfSome left_old (λ input. AppendsFront old new (run_of input).text)
+RunStops left_old left_new old new stop.NoMemory = IfSome left_old (λ input. TellsFirst input old new)

@@ -1,6 +1,6 @@
 -- what the program writes, and what each exit status says
-use Rattle.std.specs.Prelude.{◌≡◌, ◌⊎◌, ℕ, List, [], ◌∷◌, ◌++◌, codes, Option, IfSome}
-use Rattle.std.specs.Io.KnownBytes.{Appends, Consumes}
+use Rattle.std.specs.Prelude.{◌≡◌, ◌≤◌, ◌⊎◌, ℕ, List, [], ◌∷◌, ◌++◌, codes, Option, IfSome}
+use Rattle.std.specs.Io.KnownBytes.{Appends, Consumes, IsAtEnd}
 use Rattle.outside_io.specs.Outside.{Rose}
 use Rattle.script_text.specs.declared.line.ScriptCause.{ScriptCause}
 use Rattle.script_text.specs.declared.line.ScriptCause.TheVariants as cause
@@ -8,7 +8,7 @@ use Rattle.report_text.specs.Texts.{spaced}
 use Rattle.galera_run.specs.declared.fault.Finished.{Finished}
 use Rattle.galera_run.specs.Reading.{Ending, finished, refused, run_of, text_so_far}
 use Rattle.galera_run.specs.Writing.{AppendsFront}
-use Rattle.galera_run.specs.Outcome.{TellsAll}
+use Rattle.galera_run.specs.Outcome.{TellsAll, TellsFirst}
 
 -- the words are the command
 abbrev pub IsSteps : List (List ℕ) → Type 0
@@ -37,9 +37,30 @@ last_text (refused number c) = refusal_text number c
 abbrev pub printed_of : List ℕ → List ℕ
 printed_of input = (run_of input).text ++ last_text (run_of input).ending
 
--- the run came to the end of its input, and the whole text was written
-abbrev pub TellsEnd : Option (List ℕ) → Option (List ℕ) → Option (List ℕ) → Type 0
-TellsEnd left old new = IfSome left (λ input. (done : Finished) × TellsAll (run_of input) old new done)
+-- how many faults the source and the sink counted, before and after: the source's count rose at status 3, the sink's at 4, and
+-- neither at any other; there is no other than these
+abbrev pub HasCauses : ℕ → ℕ → ℕ → ℕ → ℕ → Type 0
+HasCauses status source_old source_new sink_old sink_new =
+    (((status ≤ 2) ⊎ (status ≡ 6)) × (source_new ≡ source_old) × (sink_new ≡ sink_old))
+    ⊎ (((status ≡ 3) × Rose source_old source_new × (sink_new ≡ sink_old)) ⊎ ((status ≡ 4) × Rose sink_old sink_new))
+
+-- the sink's count as the last line is written: it stays at the status meant, and rose at 4
+abbrev pub EndsAs : ℕ → ℕ → ℕ → ℕ → Type 0
+EndsAs meant status old new = ((status ≡ meant) × (new ≡ old)) ⊎ ((status ≡ 4) × Rose old new)
+
+-- the words are no command: the text was written, or a front of it where the sink failed
+abbrev pub EndsUsage : ℕ → Option (List ℕ) → Option (List ℕ) → Type 0
+EndsUsage status old new =
+    ((status ≡ 1) × Appends old new usage_text) ⊎ ((status ≡ 4) × AppendsFront old new usage_text)
+
+-- the run came to the end of its input, its whole text was written, and no byte is left
+abbrev pub TellsEnd : Option (List ℕ) → Option (List ℕ) → Option (List ℕ) → Option (List ℕ) → Type 0
+TellsEnd left_old left_new old new =
+    IfSome left_old (λ input. (done : Finished) × TellsAll (run_of input) old new done) × IsAtEnd left_new
+
+-- the text of the first lines was written, and no more
+abbrev pub TellsLines : Option (List ℕ) → Option (List ℕ) → Option (List ℕ) → Type 0
+TellsLines left old new = IfSome left (λ input. TellsFirst input old new)
 
 -- the run is refused at a line, and the whole text with that line and its cause was written
 pub record IsRefusal (input : List ℕ) (old new : Option (List ℕ)) : Type 0 where

@@ -1,5 +1,5 @@
 -- a run over the lines of an input: what it prints, and how it ends
-use Rattle.std.specs.Prelude.{ℕ, ◌+◌, ◌&&◌, Bool, nat_le, nat_lt, List, [], ◌∷◌, ◌++◌, length, flat_map, Option, Some, None, Result, Ok, Err, if◌then◌else◌}
+use Rattle.std.specs.Prelude.{ℕ, ◌+◌, ◌&&◌, Bool, nat_le, nat_lt, List, [], ◌∷◌, ◌++◌, length, take, flat_map, Option, Some, None, Result, Ok, Err, if◌then◌else◌}
 use Rattle.order_event.specs.declared.step.Answer.{Answer}
 use Rattle.order_event.specs.declared.step.Step.{Step}
 use Rattle.script_text.specs.declared.line.Header.{Header}
@@ -144,6 +144,10 @@ run_ended steps model = record { text = end_text (finished steps model); ending 
 
 unfoldable pub run_of : List ℕ → Run
 run_of bytes = run_told (told_from start (lines_of bytes))
+
+-- what the first lines of an input print, so many of them
+unfoldable pub first_text : ℕ → List ℕ → List ℕ
+first_text count bytes = (told_from start (take count (lines_of bytes))).text
 
 -- what the lines print whose newline is among the bytes
 unfoldable pub text_so_far : List ℕ → List ℕ

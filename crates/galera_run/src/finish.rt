@@ -1,7 +1,7 @@
 ghost use Rattle.std.specs.Prelude.{◌≡◌, [], length, IfOk, IfErr};
 ghost use Rattle.galera_run.specs.Lines.{last_line};
 ghost use Rattle.galera_run.specs.Reading.{nodes_end, run_told, told_at, run_ended};
-ghost use Rattle.galera_run.specs.Feeding.{Stands, IsSound, IsCounted, HasWriteCause, told_by};
+ghost use Rattle.galera_run.specs.Feeding.{Stands, IsSound, IsCounted, PrintStops, HasWriteCause, told_by};
 ghost use Rattle.galera_run.specs.Outcome.{TellsAll, EndStops};
 
 use crate::fault::{Finished, RunFault};
@@ -22,7 +22,7 @@ pub(crate) fn finish<K: Sink>(
 ) -> Result<Finished, RunFault>
     requires { IsSound script.old }
     ensures ok { IfOk result (TellsAll (run_told (told_by last_line script.old [])) (K.written out.old) (K.written out.new)) }
-    ensures err { IfErr result (EndStops (run_told (told_by last_line script.old [])) (K.written out.old) (K.written out.new)) }
+    ensures err { IfErr result (EndStops (told_by last_line script.old []) (K.written out.old) (K.written out.new)) }
     ensures cause { HasWriteCause (K.faults out.old) (K.faults out.new) result }
 {
     if script.pending.is_empty() {
@@ -38,7 +38,7 @@ pub(crate) fn finish<K: Sink>(
 fn end_at_place<K: Sink>(alloc: Global, place: &Place, out: &mut K) -> Result<Finished, RunFault>
     requires { Stands place.now }
     ensures ok { IfOk result (TellsAll (run_told (told_at place.now)) (K.written out.old) (K.written out.new)) }
-    ensures err { IfErr result (EndStops (run_told (told_at place.now)) (K.written out.old) (K.written out.new)) }
+    ensures err { IfErr result (EndStops (told_at place.now) (K.written out.old) (K.written out.new)) }
     ensures cause { HasWriteCause (K.faults out.old) (K.faults out.new) result }
 {
     match &place.state {
@@ -59,7 +59,7 @@ fn print_end<K: Sink>(
 ) -> Result<Finished, RunFault>
     requires { IsCounted steps opened.now }
     ensures ok { IfOk result (TellsAll (run_ended steps opened.now.cluster.model) (K.written out.old) (K.written out.new)) }
-    ensures err { IfErr result (EndStops (run_ended steps opened.now.cluster.model) (K.written out.old) (K.written out.new)) }
+    ensures err { IfErr result (PrintStops (K.written out.old) (K.written out.new) (run_ended steps opened.now.cluster.model).text) }
     ensures cause { HasWriteCause (K.faults out.old) (K.faults out.new) result }
 {
     match end_lines(alloc, opened) {

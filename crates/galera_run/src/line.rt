@@ -4,10 +4,10 @@ ghost use Rattle.script_text.specs.Grammar.{first_of, line_of};
 ghost use Rattle.script_text.specs.Steps.{IsStepOf};
 ghost use Rattle.node_meaning.specs.Cluster.{will_order};
 ghost use Rattle.galera_run.specs.Reading.{most_events, behind, opened_at, stepped_at, line_at};
-ghost use Rattle.galera_run.specs.Feeding.{Stands, IsRoomFor, FailsAs, IsHeaderOf, IsOpenedBy};
+ghost use Rattle.galera_run.specs.Feeding.{Stands, IsRoomFor, FailsAs, IsHeaderOf, IsOpenedBy, IsCounted};
 
 use crate::place::{Opened, Place};
-use cluster_core::Cluster;
+use cluster_core::{Cluster, StepFault};
 use group_order::MemGroup;
 use order_event::{Answer, Step};
 use script_text::{Header, Line, ScriptCause, parse_first, parse_line};
@@ -79,12 +79,13 @@ fn open(alloc: Global, place: &mut Place, line: &[u8]) -> Result<Option<Answer>,
 // The cluster of a header, over a group in memory.
 fn begin(alloc: Global, header: &Header) -> Result<Opened, NoMemory>
     requires { IsHeaderOf header.now }
-    ensures { IfOk result (IsOpenedBy header.now) }
+    ensures opened { IfOk result (IsOpenedBy header.now) }
+    ensures counted { IfOk result (IsCounted 0) }
 {
     let group = MemGroup::new(alloc, u32::from(header.nodes))?;
     Ok(Opened {
         nodes: header.nodes,
-        cluster: Cluster::new(alloc, group, &header.id, header.nodes, header.gcache)?,
+        cluster: Cluster::new(alloc, group, header.id, header.nodes, header.gcache)?,
     })
 }
 
@@ -108,7 +109,7 @@ fn run_said(place: &mut Place, opened: Opened, line: &[u8]) -> Result<Option<Ans
     }
 }
 
-// A step, unless it would pass a limit. The group in memory never fails.
+// A step, unless it would pass a limit.
 fn run_step(
     place: &mut Place,
     mut opened: Opened,
@@ -132,7 +133,9 @@ fn run_step(
             pass(place, line, steps + 1, Some(opened));
             Ok(Some(answer))
         }
-        Err(_) => Err(LineFault::NoMemory),
+        Err(StepFault::NoMemory) => Err(LineFault::NoMemory),
+        // The group in memory never fails: its count of faults is 0 for good.
+        Err(StepFault::Group) => unreachable!(),
     }
 }
 

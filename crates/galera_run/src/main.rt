@@ -3,6 +3,7 @@
 
 mod fault;
 mod finish;
+mod laws;
 mod line;
 mod output;
 mod place;
@@ -10,10 +11,9 @@ mod print;
 mod program;
 mod run;
 mod script;
-#[cfg(test)]
-mod tests;
 
 pub use fault::{Finished, RunFault};
+pub use laws::run_laws;
 use outside_io::{StdSink, StdSource};
 pub use program::galera_steps;
 pub use run::run_steps;

@@ -1,8 +1,7 @@
-ghost use Rattle.std.specs.Prelude.{◌≡◌, ◌≢◌, ◌≤◌, ◌<◌, ◌⊎◌, ◌↔◌, map, string_bytes, IfOk, IsTrue};
-ghost use Rattle.std.specs.Io.KnownBytes.{Appends};
-ghost use Rattle.outside_io.specs.Outside.{Rose};
+ghost use Rattle.std.specs.Prelude.{◌≡◌, ◌≢◌, ◌<◌, ◌⊎◌, ◌↔◌, map, string_bytes, IfOk, IsTrue};
+ghost use Rattle.std.specs.Io.KnownBytes.{Appends, Keeps};
 ghost use Rattle.galera_run.specs.Writing.{AppendsFront};
-ghost use Rattle.galera_run.specs.Program.{IsSteps, usage_text, refusal_text, cause_text, TellsEnd, TellsRefused, TellsUnread, CutsRun};
+ghost use Rattle.galera_run.specs.Program.{IsSteps, refusal_text, cause_text, HasCauses, EndsAs, EndsUsage, TellsEnd, TellsLines, TellsRefused, TellsUnread, CutsRun};
 
 use crate::fault::RunFault;
 use crate::output::write_piece;
@@ -25,23 +24,24 @@ pub fn galera_steps<S: Source, K: Sink>(
     input: &mut S,
     out: &mut K,
 ) -> u8
+    // Which count of faults rose, and that there is no other status.
+    ensures cause { HasCauses result (S.faults input.old) (S.faults input.new) (K.faults out.old) (K.faults out.new) }
     ensures finished { result ≡ 0 → IsSteps (map string_bytes words.now)
-        × TellsEnd (S.left input.old) (K.written out.old) (K.written out.new) }
+        × TellsEnd (S.left input.old) (S.left input.new) (K.written out.old) (K.written out.new) }
     // The words are no command: both directions.
-    ensures usage { result ≡ 1 → (¬ IsSteps (map string_bytes words.now))
-        × Appends (K.written out.old) (K.written out.new) usage_text }
-    ensures no_command { (¬ IsSteps (map string_bytes words.now)) → (result ≡ 1) ⊎ (result ≡ 4) }
+    ensures usage { (result ≡ 1 → ¬ IsSteps (map string_bytes words.now))
+        × ((¬ IsSteps (map string_bytes words.now)) → EndsUsage result (K.written out.old) (K.written out.new)) }
     ensures script { result ≡ 2 → IsSteps (map string_bytes words.now)
         × TellsRefused (S.left input.old) (K.written out.old) (K.written out.new) }
     ensures read { result ≡ 3 → IsSteps (map string_bytes words.now)
-        × Rose (S.faults input.old) (S.faults input.new)
         × TellsUnread (S.left input.old) (S.left input.new) (K.written out.old) (K.written out.new) }
-    ensures write { result ≡ 4 → Rose (K.faults out.old) (K.faults out.new) }
     // What went out is a front of the text.
     ensures cut { result ≡ 4 → IsSteps (map string_bytes words.now)
         → CutsRun (S.left input.old) (S.left input.new) (S.faults input.old) (S.faults input.new)
         (K.written out.old) (K.written out.new) }
-    ensures no_other { (result ≤ 4) ⊎ (result ≡ 6) }
+    // What went out is the text of whole lines.
+    ensures memory { result ≡ 6 → IsSteps (map string_bytes words.now)
+        × TellsLines (S.left input.old) (K.written out.old) (K.written out.new) }
 {
     if is_steps(words) {
         do_steps(alloc, input, out)
@@ -62,15 +62,14 @@ fn is_steps(words: &[String]) -> bool
 
 // Runs the schedule, and writes the last line where it stops.
 fn do_steps<S: Source, K: Sink>(alloc: Global, input: &mut S, out: &mut K) -> u8
-    ensures finished { result ≡ 0 → TellsEnd (S.left input.old) (K.written out.old) (K.written out.new) }
+    ensures cause { HasCauses result (S.faults input.old) (S.faults input.new) (K.faults out.old) (K.faults out.new) }
+    ensures finished { result ≡ 0 → TellsEnd (S.left input.old) (S.left input.new) (K.written out.old) (K.written out.new) }
+    ensures no_usage { result ≢ 1 }
     ensures script { result ≡ 2 → TellsRefused (S.left input.old) (K.written out.old) (K.written out.new) }
-    ensures read { result ≡ 3 → Rose (S.faults input.old) (S.faults input.new)
-        × TellsUnread (S.left input.old) (S.left input.new) (K.written out.old) (K.written out.new) }
-    ensures write { result ≡ 4 → Rose (K.faults out.old) (K.faults out.new) }
+    ensures read { result ≡ 3 → TellsUnread (S.left input.old) (S.left input.new) (K.written out.old) (K.written out.new) }
     ensures cut { result ≡ 4 → CutsRun (S.left input.old) (S.left input.new) (S.faults input.old) (S.faults input.new)
         (K.written out.old) (K.written out.new) }
-    ensures no_usage { result ≢ 1 }
-    ensures no_other { (result ≤ 4) ⊎ (result ≡ 6) }
+    ensures memory { result ≡ 6 → TellsLines (S.left input.old) (K.written out.old) (K.written out.new) }
 {
     match run_steps(alloc, input, out) {
         Ok(_) => 0,
@@ -83,10 +82,11 @@ fn do_steps<S: Source, K: Sink>(alloc: Global, input: &mut S, out: &mut K) -> u8
 
 // Writes that this line is refused.
 fn end_refused<K: Sink>(alloc: Global, line: u64, cause: ScriptCause, out: &mut K) -> u8
+    ensures cause { EndsAs 2 result (K.faults out.old) (K.faults out.new)
+        ⊎ ((result ≡ 6) × (K.faults out.new ≡ K.faults out.old)) }
     ensures written { result ≡ 2 → Appends (K.written out.old) (K.written out.new) (refusal_text line cause) }
-    ensures write { result ≡ 4 → Rose (K.faults out.old) (K.faults out.new) }
     ensures cut { result ≡ 4 → AppendsFront (K.written out.old) (K.written out.new) (refusal_text line cause) }
-    ensures no_other { (result ≡ 2) ⊎ (result ≡ 4) ⊎ (result ≡ 6) }
+    ensures memory { result ≡ 6 → Keeps (K.written out.old) (K.written out.new) }
 {
     match refusal_line(alloc, line, cause) {
         Ok(text) => end_with(out, text.as_slice(), 2),
@@ -119,10 +119,9 @@ fn cause_word(cause: ScriptCause) -> &'static [u8]
 // Writes the last line. The status is the one given, or 4 where the sink fails.
 fn end_with<K: Sink>(out: &mut K, text: &[u8], status: u8) -> u8
     requires { status < 4 }
+    ensures cause { EndsAs status result (K.faults out.old) (K.faults out.new) }
     ensures written { result ≡ status → Appends (K.written out.old) (K.written out.new) text.now }
-    ensures write { result ≡ 4 → Rose (K.faults out.old) (K.faults out.new) }
     ensures cut { result ≡ 4 → AppendsFront (K.written out.old) (K.written out.new) text.now }
-    ensures no_other { (result ≡ status) ⊎ (result ≡ 4) }
 {
     match write_piece(out, text) {
         Ok(()) => status,

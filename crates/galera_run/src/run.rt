@@ -23,6 +23,7 @@ pub fn run_steps<S: Source, K: Sink>(
     out: &mut K,
 ) -> Result<Finished, RunFault>
     ensures ok { IfOk result (RunTells (S.left input.old) (K.written out.old) (K.written out.new)) }
+    ensures end { OnOk result (IsAtEnd (S.left input.new)) }
     ensures err { IfErr result (RunStops (S.left input.old) (S.left input.new) (K.written out.old) (K.written out.new)) }
     ensures read { HasReadCause (S.faults input.old) (S.faults input.new) result }
     ensures write { HasWriteCause (K.faults out.old) (K.faults out.new) result }

@@ -8,3 +8,8 @@ abbrev pub HasCause : {T : Type 0} → ℕ → ℕ → Result T GroupFault → T
 HasCause before now (Ok x) = now ≡ before
 HasCause before now (Err Failed) = before < now
 HasCause before now (Err NoMemory) = now ≡ before
+
+-- what holds where memory is wanted
+abbrev pub AtNoMemory : Type 0 → GroupFault → Type 0
+AtNoMemory need Failed = Unit {0}
+AtNoMemory need NoMemory = need

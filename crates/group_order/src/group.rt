@@ -1,7 +1,7 @@
-ghost use Rattle.std.specs.Prelude.{◌≡◌, ℕ, ◌<◌, List, [], ◌∷◌, ◌++◌, length, IfOk, OnOk, OnErr};
+ghost use Rattle.std.specs.Prelude.{◌≡◌, ℕ, ◌<◌, List, [], ◌∷◌, ◌++◌, length, IsSome, IfOk, IfErr, OnOk, OnErr};
 ghost use Rattle.order_event.specs.declared.event.Event.{Event};
 ghost use Rattle.group_order.specs.Order.{event_at, event_of};
-ghost use Rattle.group_order.specs.Causes.{HasCause};
+ghost use Rattle.group_order.specs.Causes.{HasCause, AtNoMemory};
 
 use crate::GroupFault;
 use order_event::{Event, Message};
@@ -18,11 +18,12 @@ pub trait Group: Drop {
     fn len(&self) -> u64
         ensures { result ≡ length (order self.now) };
 
-    /// The event with this number. None exactly where there is none.
+    /// The event with this number. None exactly where there is none, which takes no memory.
     fn event(&mut self, n: u64) -> Result<Option<Event>, GroupFault>
         ensures ok { IfOk result (λ event. event ≡ event_at (order self.old) n) }
         ensures order { order self.new ≡ order self.old }
-        ensures cause { HasCause (faults self.old) (faults self.new) result };
+        ensures cause { HasCause (faults self.old) (faults self.new) result }
+        ensures memory { IfErr result (AtNoMemory (IsSome (event_at (order self.old) n))) };
 
     /// Orders the message as that member's, behind all events, and gives its number. After a fault
     /// the order is the same.

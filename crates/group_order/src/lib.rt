@@ -4,8 +4,6 @@
 mod fault;
 mod group;
 mod mem_group;
-#[cfg(test)]
-mod tests;
 
 pub use fault::GroupFault;
 pub use group::Group;

@@ -147,35 +147,3 @@ impl<T: PartialEq> PartialEq for ItemList<T> {
         self.items.as_slice() == other.items.as_slice()
     }
 }
-
-#[cfg(test)]
-mod tests {
-    use super::*;
-    use std::test::Fail;
-
-    #[test]
-    fn pushes_extends_and_cuts(rt: HostRuntime) -> Result<(), Fail> {
-        let mut list = ItemList::new(rt.alloc());
-        assert!(rt; list.is_empty());
-        list.push(7u32)?;
-        list.extend([8, 9].as_slice())?;
-        assert_eq!(rt; list.as_slice(), [7, 8, 9].as_slice());
-        assert_eq!(rt; list.get(1), Some(8));
-        assert_eq!(rt; list.get(3), None);
-        list.truncate(2);
-        assert_eq!(rt; list.len(), 2);
-        let mut rest = list.copy()?;
-        if !rest.is_empty() {
-            assert_eq!(rt; rest.take_first(), 7);
-        }
-        assert_eq!(rt; rest.as_slice(), [8].as_slice());
-        let mut same = ItemList::new(list.alloc());
-        same.extend([7, 8].as_slice())?;
-        assert!(rt; same == list);
-        let of_vector = ItemList::from(vec![in rt.alloc(); 1u32, 2]?);
-        assert_eq!(rt; of_vector.into_vec().as_slice(), [1, 2].as_slice());
-        list.clear();
-        assert!(rt; list.is_empty());
-        Ok(())
-    }
-}

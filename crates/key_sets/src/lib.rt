@@ -8,8 +8,6 @@ mod laws;
 mod parts;
 mod relation;
 mod test;
-#[cfg(test)]
-mod tests;
 
 pub use fault::KeyFault;
 pub use key_set::{KeyList, KeySet, conflicts, meet, touches};

@@ -3,7 +3,9 @@ use Rattle.std.proofs.Common.{◌≡◌, ℕ, ◌+◌, ◌≤◌, ◌<◌, Bool,
 use Rattle.std.specs.Prelude.{◌==◌, ◌||◌, not, is_some, is_none}
 use Rattle.std.specs.Ordering.{nat_cmp, eq_by_cmp}
 use Rattle.std.specs.Cmp.{nat_cmp_total}
-use Rattle.std.proofs.lemmas.Bool.{eqb-true, eq-eqb}
+use Rattle.std.proofs.lemmas.Bool.{eqb-true, eq-eqb, false_from_ne_true}
+use Rattle.std.proofs.lemmas.Option.{same_Some}
+use Rattle.finite_map.proofs.Edits.{numbers, left, tied, untied}
 use Rattle.finite_map.specs.FiniteMap.{FiniteMap, get, insert, remove, get-remove, same_map}
 use Rattle.row_model.specs.declared.row.RowId.{RowId}
 use Rattle.row_model.specs.declared.calls.Reply.TheVariants as reply
@@ -28,18 +30,19 @@ use Rattle.node_meaning.specs.declared.progress.Stage.TheVariants as stage
 use Rattle.node_meaning.specs.Steps.{is_certified_at, is_replaying_at, is_local, is_finished, committer_of, told_committed, committed_next, is_ready, advance_step}
 use Rattle.node_meaning.specs.Units.{ops_at, unit_task}
 use Rattle.node_meaning.specs.Facts.{Facts}
-use Rattle.node_meaning.proofs.EntryLaws.{less_from, left, number-exact, some_is, some_not_none, not_itself}
+use Rattle.node_meaning.proofs.EntryLaws.{less_from, some_not_none}
 use Rattle.node_meaning.proofs.PassedLaws.{numbered_within, passed-is}
 use Rattle.node_meaning.proofs.LockLaws.{locks_of-remove, locks_of-remove_unit}
-use Rattle.node_meaning.proofs.UnitLaws.{rows-event, task-unit}
-use Rattle.node_meaning.proofs.AdvanceFacts.{advance_keeps, committer_there, commits_at, rows-committer, rows-none, committer-none, not_local, unit-finished, units-local}
+use Rattle.node_meaning.proofs.UnitLaws.{rows-event, rows-committer, task-unit}
+use Rattle.node_meaning.proofs.AdvanceFacts.{committer_there, commits_at, rows-none, committer-none, not_local, unit-finished, units-local}
 use Rattle.node_parts.specs.Units.{Work, UnitTable, without, done_of, rows_of}
 use Rattle.node_core.specs.declared.node.Node.{Node}
 use Rattle.node_core.specs.Tabled.{Tabled}
 use Rattle.node_core.specs.Advancing.{AreFree, results_of, TakesUnit, IsCommitted, AfterCommitter}
+use Rattle.node_core.proofs.KeptFacts.{facts_advanced}
 use Rattle.node_core.specs.Stands.{Stands, Tables, KeepsChanges, AreWorked, IsWorked, HasTask, DoneOver, plain_of}
 use Rattle.node_core.proofs.Tabling.{tabled_committed, tabled-ended, tabled-put, tabled-kept}
-use Rattle.node_core.proofs.CertifyCalls.{by_bool, two_ways}
+use Rattle.node_core.proofs.CertifyCalls.{two_ways}
 use Rattle.node_core.proofs.UnitRows.{unit_free, unit_length, rows_left}
 use Rattle.node_core.proofs.ImageCalls.{put_named}
 
@@ -53,7 +56,7 @@ module _ (rows : Rows) (live : FiniteMap nat_cmp Live) (table after : RowTable) 
       (same_map row_total row_exact after.committed table.committed (λ id.
       kept id
       ∙ tabled_committed rows live table tabled s id
-      (λ u is. ap (λ (l : Live). has_locks l.status) (some_is u t (sym is ∙ there)) ∙ none)
+      (λ u is. ap (λ (l : Live). has_locks l.status) (same_Some u t (sym is ∙ there)) ∙ none)
       ∙ ap (λ r. get r id) (sym tabled.committed)))
       gone
 
@@ -133,7 +136,7 @@ module _ (order : List Event) (old : Node) (stands : Stands order old) where
 
   module _ (differs : old.at.committed ≡ old.at.certified → ⊥) where
     unequal : old.at.committed == old.at.certified ≡ false
-    unequal = by_bool (old.at.committed == old.at.certified) (λ same. differs (eqb-true old.at.committed old.at.certified same))
+    unequal = false_from_ne_true (old.at.committed == old.at.certified) (λ same. differs (eqb-true old.at.committed old.at.certified same))
 
     more : old.at.committed < old.at.certified
     more = less_from old.at.committed old.at.certified stands.facts.in_order.committed_fits unequal
@@ -223,7 +226,7 @@ module _ (order : List Event) (old : Node) (stands : Stands order old) where
             (λ c passed. tabled-gone (rows_at order next) old.live mid.rows new.rows
             (rows_finished (unit-finished order (plain_of old) stands.facts more c passed
             (not_local order (plain_of old) stands.facts more (λ o u other.
-            ap (λ (e : ℕ × Live). is_certified_at next e.1.status) (some_is (o, u) (s, t) (sym other ∙ one)) ∙ no_locks next t.status none)) ready))
+            ap (λ (e : ℕ × Live). is_certified_at next e.1.status) (same_Some (o, u) (s, t) (sym other ∙ one)) ∙ no_locks next t.status none)) ready))
             s t here.0 none is.committed is.changes)
 
         rows_some : Tabled (rows_at order next) (remove old.live s) new.rows
@@ -235,7 +238,7 @@ module _ (order : List Event) (old : Node) (stands : Stands order old) where
         kept = λ number above fits is.
             get-remove nat_cmp_total old.passed.ops next number
             ∙ ap (λ b. cond b None (get old.passed.ops number))
-            (by_bool (eq_by_cmp nat_cmp number next) (λ tie. let same = number-exact number next tie in absurd (omega (arith, above, same))))
+            (false_from_ne_true (eq_by_cmp nat_cmp number next) (λ tie. let same = tied numbers number next tie in absurd (omega (arith, above, same))))
             ∙ stands.passed.kept number (omega (arith, above)) fits is;
         only = λ number has. left_only number _ refl (sym (ap is_some (get-remove nat_cmp_total old.passed.ops next number)) ∙ has);
       }
@@ -245,13 +248,13 @@ module _ (order : List Event) (old : Node) (stands : Stands order old) where
           left_only number true tie has = cc
           left_only number false other has =
               let was = stands.passed.only number has in
-              let apart = not_itself number next other in
-              (less_from next number (omega (arith, was.0)) (by_bool (next == number) (λ same. apart (sym (eqb-true next number same)))), was.1)
+              let apart = untied numbers number next other in
+              (less_from next number (omega (arith, was.0)) (false_from_ne_true (next == number) (λ same. apart (sym (eqb-true next number same)))), was.1)
 
       units_left : AreWorked order (without old.units next)
       units_left = record {
         worked = λ number u is.
-            let l = left old.units.units next number u is in
+            let l = left numbers old.units.units next number u is in
             let w = stands.tables.units.worked number u l.there in
             (w.0, get-remove nat_cmp_total old.units.work next number ∙ ap (λ b. cond b None (get old.units.work number)) l.elsewhere ∙ w.1, w.2);
       }
@@ -327,7 +330,7 @@ module _ (order : List Event) (old : Node) (stands : Stands order old) where
                 (subst (λ (c : ℕ). KeepsChanges order next c target.passed.ops) (sym certified_is)
                 (subst (KeepsChanges order next old.at.certified) (sym passed) passed_kept));
             tables = subst (Tables order) (sym target_is) committed_tables;
-            facts = subst (Facts order) (ap (λ (p : Answer × ModelNode). p.1) (sym same)) (advance_keeps order (plain_of old) stands.facts);
+            facts = facts_advanced order old target stands (answer.At next) same;
           };
         }
 

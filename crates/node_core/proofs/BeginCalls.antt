@@ -4,6 +4,7 @@ use Rattle.std.specs.Prelude.{Option, Some, None}
 use Rattle.std.specs.Ordering.{nat_cmp, eq_by_cmp}
 use Rattle.std.specs.Cmp.{nat_cmp_total, eq_by_cmp_equiv}
 use Rattle.std.specs.Option.{unwrap_or}
+use Rattle.finite_map.proofs.Edits.{numbers, itself, Inserted, AtKey, Elsewhere, inserted}
 use Rattle.finite_map.specs.FiniteMap.{FiniteMap, empty, get, insert, get-insert}
 use Rattle.key_sets.specs.Keys.{Keys, touches}
 use Rattle.row_model.specs.Rows.{Rows}
@@ -26,11 +27,10 @@ use Rattle.node_meaning.specs.Node.{ModelNode, ApplyUnit, locks_of, rows_at}
 use Rattle.node_meaning.specs.Facts.{Facts}
 use Rattle.node_meaning.specs.Steps.{kill_session, started}
 use Rattle.node_meaning.specs.Units.{ops_at, named_rows}
-use Rattle.node_meaning.proofs.EntryLaws.{number-itself, Inserted, Here, There, inserted}
 use Rattle.node_meaning.proofs.LockLaws.{lock_of_unit, keys_of_unit, get-locks_of-unit, get-set_lock, keys_at-unit, locks_of-insert_unit}
-use Rattle.node_meaning.proofs.StartFacts.{started_keeps}
 use Rattle.node_core.specs.declared.node.Node.{Node}
 use Rattle.node_core.specs.Tabled.{Tabled}
+use Rattle.node_core.proofs.KeptFacts.{facts_started}
 use Rattle.node_core.specs.Stands.{KeepsChanges, AreWorked, IsWorked, DoneOver, Unchanged, plain_of}
 use Rattle.node_core.specs.Starting.{CanStart, Aborts, IsClear, unit_locked, unit_started}
 use Rattle.node_core.proofs.UnitLocks.{unit_locks}
@@ -53,17 +53,17 @@ module _ (order : List Event) (table : UnitTable) (number : ℕ) (keys : Keys) (
   abbrev new_work : Work
   new_work = record { rows = rows; done = None }
 
-  each : (q : ℕ) (v : ApplyUnit) → Inserted q number new_unit table.units v
+  each : (q : ℕ) (v : ApplyUnit) → Inserted numbers table.units number new_unit q v
       → (work : Work) × (get (insert table.work number new_work) q ≡ Some work) × IsWorked order q v work
-  each q v (Here key value) = (
+  each q v (AtKey key value) = (
     new_work,
     get-insert nat_cmp_total table.work number new_work q
         ∙ ap (λ k. cond (eq_by_cmp nat_cmp k number) (Some new_work) (get table.work q)) key
-        ∙ ap (λ b. cond b (Some new_work) (get table.work q)) (number-itself number),
+        ∙ ap (λ b. cond b (Some new_work) (get table.work q)) (itself numbers number),
     subst (λ (x : ℕ). IsWorked order x v new_work) (sym key)
         (subst (λ (x : ApplyUnit). IsWorked order number x new_work) (sym value) (record { rows = count; task = refl })),
   )
-  each q v (There differs elsewhere) =
+  each q v (Elsewhere differs elsewhere) =
       let other = worked.worked q v elsewhere in (
         other.0,
         get-insert nat_cmp_total table.work number new_work q ∙ ap (λ b. cond b (Some new_work) (get table.work q)) differs ∙ other.1,
@@ -71,7 +71,7 @@ module _ (order : List Event) (table : UnitTable) (number : ℕ) (keys : Keys) (
       )
 
   worked_added : AreWorked order (added table number keys rows)
-  worked_added = record { worked = λ q v h. each q v (inserted table.units number new_unit q v h) }
+  worked_added = record { worked = λ q v h. each q v (inserted numbers table.units number new_unit q v h) }
 
 -- ---- locks of a unit that others' keys do not touch
 module _ (live : FiniteMap nat_cmp Live) (older : FiniteMap nat_cmp ApplyUnit) (number : ℕ) (unit : ApplyUnit) where
@@ -87,7 +87,7 @@ module _ (live : FiniteMap nat_cmp Live) (older : FiniteMap nat_cmp ApplyUnit) (
   own_keys =
       keys_at-unit live (insert older number unit) number
       ∙ ap keys_of_unit (get-insert nat_cmp_total older number unit number
-      ∙ ap (λ b. cond b (Some unit) (get older number)) (number-itself number))
+      ∙ ap (λ b. cond b (Some unit) (get older number)) (itself numbers number))
 
 -- ---- the call
 module _ (order : List Event) (old mid killed : Node) (number : ℕ) (keys : Keys) (rows : ℕ) (aborted : List ℕ) (units : UnitTable)
@@ -124,10 +124,7 @@ module _ (order : List Event) (old mid killed : Node) (number : ℕ) (keys : Key
       ∙ ap (started n number keys) aborted_is
 
   facts : Facts order (plain_of killed)
-  facts =
-      subst (Facts order) (sym (ap (λ (p : Answer × ModelNode). p.1) same))
-      (started_keeps order n number (record { number = can.label; trx = can.trx; keys = keys }) can.stands.facts
-      (record { above = can.above; within = can.within; is_commit = can.is_commit }) can.fresh can.remote can.clear)
+  facts = facts_started order old killed can.stands number keys can (answer.Started number aborted) same
 
   killed_units : killed.units ≡ added old.units number keys rows
   killed_units = kills.units ∙ units_is

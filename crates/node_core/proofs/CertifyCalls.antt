@@ -4,6 +4,9 @@ use Rattle.std.specs.Prelude.{◌==◌, option_map}
 use Rattle.std.specs.Ordering.{nat_cmp, eq_by_cmp}
 use Rattle.std.specs.Cmp.{nat_cmp_total}
 use Rattle.std.specs.FinMap.{nat_cmp-IsAntisymmetric}
+use Rattle.std.proofs.lemmas.Option.{same_Some}
+use Rattle.std.proofs.lemmas.Bool.{false_from_ne_true}
+use Rattle.finite_map.proofs.Edits.{numbers, tied, insert-there, insert-remove}
 use Rattle.finite_map.specs.FiniteMap.{FiniteMap, get, insert, remove, get-insert, get-remove, same_map}
 use Rattle.wsrep_base.specs.declared.verdict.Verdict.{Verdict}
 use Rattle.wsrep_base.specs.declared.verdict.Verdict.TheVariants as verdict
@@ -19,36 +22,13 @@ use Rattle.client_trx.specs.Live.{Live, has_locks, is_sent, with_status, passed_
 use Rattle.undo_rows.specs.RowTable.{RowTable, without}
 use Rattle.node_meaning.specs.Node.{ModelNode, locks_of, rows_at}
 use Rattle.node_meaning.specs.Steps.{told, told_verdict, session_of}
-use Rattle.node_meaning.proofs.EntryLaws.{entry_found, number-exact, some_is, some_not_none}
+use Rattle.node_meaning.proofs.EntryLaws.{entry_found, some_not_none}
 use Rattle.node_meaning.proofs.LockLaws.{locks_of-same, locks_of-remove}
 use Rattle.order_event.specs.declared.event.Event.{Event}
 use Rattle.node_core.specs.declared.node.Node.{Node}
 use Rattle.node_core.specs.Tabled.{Tabled, Owns, changes_row}
 use Rattle.node_core.specs.Stands.{Tables, Moves, AreWorked, plain_of}
 use Rattle.node_core.proofs.Tabling.{LiveAfter, New, Old, put_live, tabled-same, tabled-ended}
-
--- ---- maps
-module _ {X : Type 0} (m : FiniteMap nat_cmp X) (k : ℕ) (v : X) where
-  put_again : (q : ℕ) (b : Bool) → eq_by_cmp nat_cmp q k ≡ b
-      → cond b (Some v) (get (remove m k) q) ≡ cond b (Some v) (get m q)
-  put_again q true is = refl
-  put_again q false is = get-remove nat_cmp_total m k q ∙ ap (λ b. cond b None (get m q)) is
-
-  -- an entry that was taken out and is put there again
-  pub insert-remove : insert (remove m k) k v ≡ insert m k v
-  insert-remove = same_map nat_cmp_total nat_cmp-IsAntisymmetric (insert (remove m k) k v) (insert m k v) (λ q.
-      get-insert nat_cmp_total (remove m k) k v q ∙ put_again q _ refl ∙ sym (get-insert nat_cmp_total m k v q))
-
-  put_same : get m k ≡ Some v → (q : ℕ) (b : Bool) → eq_by_cmp nat_cmp q k ≡ b → cond b (Some v) (get m q) ≡ get m q
-  put_same there q true is = sym there ∙ ap (get m) (sym (number-exact q k is))
-  put_same there q false is = refl
-
-  pub insert-same : get m k ≡ Some v → insert m k v ≡ m
-  insert-same there = same_map nat_cmp_total nat_cmp-IsAntisymmetric (insert m k v) m (λ q. get-insert nat_cmp_total m k v q ∙ put_same there q _ refl)
-
-pub by_bool : (b : Bool) → (b ≡ true → ⊥) → b ≡ false
-by_bool true no_true = absurd (no_true refl)
-by_bool false no_true = refl
 
 -- ---- a transaction that has no locks before and after
 no_both : (b : Bool) → b ≡ true → b ≡ false → ⊥
@@ -78,7 +58,7 @@ module _ (rows : Rows) (live : FiniteMap nat_cmp Live) (table : RowTable) (table
         changes = owns.changes;
       }
       idle_owner o id owns true tie =
-          let own : owns.trx ≡ t = some_is owns.trx t (sym owns.is_live ∙ ap (get live) (number-exact o s tie) ∙ there) in
+          let own : owns.trx ≡ t = same_Some owns.trx t (sym owns.is_live ∙ ap (get live) (tied numbers o s tie) ∙ there) in
           absurd (no_both (has_locks owns.trx.status) owns.locks (ap (λ (l : Live). has_locks l.status) own ∙ none))
 
 -- ---- what a verdict leaves of a transaction that lives on
@@ -136,7 +116,7 @@ two_ways false locked free = free refl
 
 pub found_entry : (o : Option (ℕ × Live)) (session : ℕ) → option_map (λ e. e.0) o ≡ Some session → (t : Live) × (o ≡ Some (session, t))
 found_entry None session is = absurd cc
-found_entry (Some e) session is = (e.1, ap (λ k. Some (k, e.1)) (some_is e.0 session is))
+found_entry (Some e) session is = (e.1, ap (λ k. Some (k, e.1)) (same_Some e.0 session is))
 
 nothing_found : (o : Option (ℕ × Live)) → option_map (λ e. e.0) o ≡ None → o ≡ None
 nothing_found None is = refl
@@ -165,7 +145,7 @@ module _ (old : Node) (begin number : ℕ) (v : Verdict) where
       found_is : session_of old.live begin ≡ Some (session, t)
       found_is =
           let e = found_entry (session_of old.live begin) session found in
-          e.1 ∙ ap (λ u. Some (session, u)) (some_is e.0 t (sym (there_by e) ∙ is))
+          e.1 ∙ ap (λ u. Some (session, u)) (same_Some e.0 t (sym (there_by e) ∙ is))
 
       by_status : (b : Bool) → is_sent t.status ≡ b
           → tells (plain_of old) ≡ cond b (told (plain_of old) session (judged_by number v t)) (plain_of old)
@@ -177,7 +157,7 @@ module _ (old : Node) (begin number : ℕ) (v : Verdict) where
       pub tell_put_back : is_sent t.status ≡ false → (live : FiniteMap nat_cmp Live) → live ≡ insert (remove old.live session) session t
           → Moves tells old (record old { live = live })
       tell_put_back idle live put =
-          let same : live ≡ old.live = put ∙ insert-remove old.live session t ∙ insert-same old.live session t is in
+          let same : live ≡ old.live = put ∙ insert-remove numbers old.live session t ∙ insert-there numbers old.live session t is in
           subst (λ l. Moves tells old (record old { live = l })) (sym same) (stays (by_status false idle))
 
       module _ (sent : is_sent t.status ≡ true) where
@@ -185,7 +165,7 @@ module _ (old : Node) (begin number : ℕ) (v : Verdict) where
         pub tell_lives : (u : Live) → (Lives, u) ≡ judged_by number v t → (live : FiniteMap nat_cmp Live)
             → live ≡ insert (remove old.live session) session u → Moves tells old (record old { live = live })
         tell_lives u judged live put =
-            let now : live ≡ insert old.live session u = put ∙ insert-remove old.live session u in
+            let now : live ≡ insert old.live session u = put ∙ insert-remove numbers old.live session u in
             let same = judged_same number v t u sent judged in
             subst (λ l. Moves tells old (record old { live = l })) (sym now) (record {
               plain = sym (by_status true sent ∙ ap (told (plain_of old) session) (sym judged));

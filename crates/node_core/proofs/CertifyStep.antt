@@ -4,6 +4,8 @@ use Rattle.std.specs.Prelude.{◌==◌, IsTrue, is_some, slice_get}
 use Rattle.std.specs.Ordering.{nat_cmp, eq_by_cmp}
 use Rattle.std.specs.Cmp.{nat_cmp_total}
 use Rattle.std.proofs.lemmas.Bool.{eqb-true, eq-eqb}
+use Rattle.std.proofs.lemmas.Bool.{false_from_ne_true}
+use Rattle.finite_map.proofs.Edits.{numbers, tied, itself}
 use Rattle.finite_map.specs.FiniteMap.{FiniteMap, get, insert, get-insert}
 use Rattle.wsrep_base.specs.declared.verdict.Verdict.{Verdict}
 use Rattle.wsrep_base.specs.declared.verdict.Judged.{Judged}
@@ -25,12 +27,12 @@ use Rattle.node_meaning.specs.Node.{ModelNode}
 use Rattle.node_meaning.specs.Steps.{told, told_own, told_verdict, told_event, session_of, verdict_of, certify_event, certify_step}
 use Rattle.node_meaning.specs.Units.{ops_at, ops_by}
 use Rattle.node_meaning.specs.Facts.{Facts, commit_at}
-use Rattle.node_meaning.proofs.EntryLaws.{less_from, not_true, number-exact, number-itself, some_not_none}
+use Rattle.node_meaning.proofs.EntryLaws.{less_from, some_not_none}
 use Rattle.node_meaning.proofs.PassedLaws.{commit_at-is}
 use Rattle.node_meaning.proofs.UnitLaws.{ops_at-next}
-use Rattle.node_meaning.proofs.CertifyFacts.{certify_keeps}
 use Rattle.node_core.specs.declared.node.Node.{Node}
 use Rattle.node_core.specs.Certifying.{is_write_of, with_changes, told_if}
+use Rattle.node_core.proofs.KeptFacts.{facts_certified}
 use Rattle.node_core.specs.Stands.{Stands, Tables, KeepsChanges, Moves, DoneOver, plain_of}
 use Rattle.node_core.proofs.Standing.{first_of, dropped_one}
 
@@ -63,17 +65,17 @@ module _ (order : List Event) (committed certified : ℕ) (ops : FiniteMap nat_c
           → (b : Bool) → eq_by_cmp nat_cmp number (certified + 1) ≡ b
           → cond b (Some changes) (get ops number) ≡ Some (ops_at order number)
       pushed_kept number above within is true last =
-          ap Some (same ∙ ap (ops_at order) (sym (number-exact number (certified + 1) last)))
+          ap Some (same ∙ ap (ops_at order) (sym (tied numbers number (certified + 1) last)))
       pushed_kept number above within is false other =
           let below : number < certified + 1 = less_from number (certified + 1) within
-          (not_true (number == certified + 1) (λ tie. true≢false (sym (number-itself (certified + 1))
+          (false_from_ne_true (number == certified + 1) (λ tie. true≢false (sym (itself numbers (certified + 1))
           ∙ ap (λ k. eq_by_cmp nat_cmp k (certified + 1)) (sym (eqb-true number (certified + 1) tie)) ∙ other))) in
           keeps.kept number above (omega (arith, below)) is
 
       pushed_only : (number : ℕ) (b : Bool) → eq_by_cmp nat_cmp number (certified + 1) ≡ b
           → is_some (cond b (Some changes) (get ops number)) ≡ true → (committed < number) × (number ≤ certified + 1)
       pushed_only number true last has =
-          let is : number ≡ certified + 1 = number-exact number (certified + 1) last in (omega (arith, is, fits), omega (arith, is))
+          let is : number ≡ certified + 1 = tied numbers number (certified + 1) last in (omega (arith, is, fits), omega (arith, is))
       pushed_only number false other has = let old = keeps.only number has in (old.0, omega (arith, old.1))
 
   module _ (e : Event) (there : slice_get order certified ≡ Some e) (changes : List Op) (fits : committed ≤ certified)
@@ -136,7 +138,7 @@ module _ (order : List Event) (old : Node) (stands : Stands order old) where
 
   module _ (differs : old.at.certified ≡ old.at.taken → ⊥) where
     unequal : old.at.certified == old.at.taken ≡ false
-    unequal = not_true (old.at.certified == old.at.taken) (λ same. differs (eqb-true old.at.certified old.at.taken same))
+    unequal = false_from_ne_true (old.at.certified == old.at.taken) (λ same. differs (eqb-true old.at.certified old.at.taken same))
 
     pub more : old.at.certified < old.at.taken
     more = less_from old.at.certified old.at.taken stands.facts.in_order.certified_fits unequal
@@ -234,6 +236,6 @@ module _ (order : List Event) (old : Node) (stands : Stands order old) where
                 ∙ ap (state_at order) (sym certified_is);
             passed = kept;
             tables = moves.tables order mid_tables;
-            facts = subst (Facts order) (ap (λ (p : Answer × ModelNode). p.1) (sym same)) (certify_keeps order (plain_of old) stands.facts);
+            facts = facts_certified order old new stands (answer.Judged (old.at.certified + 1) became) same;
           };
         }

@@ -1,7 +1,7 @@
 -- What the client calls of a node leave of it.
 use Rattle.std.proofs.Common.{◌≡◌, ◌≤◌, ◌<◌, ℕ, zero, suc, ◌+◌, true, false, cond, ◌&&◌, List, [], ◌∷◌, length, take, drop, refl, sym, ap, subst, ◌∙◌, arith, true≢false}
 use Rattle.std.proofs.Math.Dec.{eqb-suc-zero}
-use Rattle.std.specs.Prelude.{Option, Some, None, is_some, not, ◌==◌, IsTrue}
+use Rattle.std.specs.Prelude.{Option, Some, None, Result, Ok, Err, OnErr, is_some, not, ◌==◌, IsTrue}
 use Rattle.std.specs.Ordering.{nat_cmp}
 use Rattle.finite_map.specs.FiniteMap.{FiniteMap, get, insert, remove, contains_key, empty, len-empty}
 use Rattle.key_sets.specs.Parts.{parts_cmp}
@@ -25,9 +25,10 @@ use Rattle.node_meaning.specs.Node.{ModelNode, rows_at, seen_rows, locks_of, end
 use Rattle.node_meaning.specs.Client.{begin_call, commit_call, send_commit, rollback_call, is_pending}
 use Rattle.node_meaning.specs.Facts.{Facts, ProgressInRange}
 use Rattle.node_meaning.proofs.LockLaws.{lock_keys, lock_of_live, locks_of-remove, locks_of-replace, locks_of-same}
-use Rattle.node_meaning.proofs.ClientFacts.{ended_keeps, begin_keeps, commit_keeps}
 use Rattle.node_core.specs.declared.node.Node.{Node}
+use Rattle.node_core.specs.Client.{sends_commit}
 use Rattle.node_core.specs.Tabled.{Tabled}
+use Rattle.node_core.proofs.KeptFacts.{facts_ended, facts_begun, facts_sent}
 use Rattle.node_core.specs.Stands.{Stands, Tables, AreWorked, Unchanged, Moves, DoneOver, plain_of}
 use Rattle.node_core.proofs.Tabling.{tabled_sees, tabled_committed, tabled-ended, tabled-same, tabled-begun}
 
@@ -140,7 +141,7 @@ ended_stands order old new s moves st =
     stands_by order old new st (ap (λ (n : ModelNode). n.at.committed) moves.plain)
     (ap (λ (n : ModelNode). n.at.certified) moves.plain) (ap (λ (n : ModelNode). n.at.taken) moves.plain)
     moves.inbox moves.fold (ap (λ p. p.ops) moves.passed) (moves.tables order st.tables)
-    (subst (Facts order) (sym moves.plain) (ended_keeps order (plain_of old) s st.facts))
+    (facts_ended order old new st s moves.plain)
 
 pub rolled_back : (order : List Event) (old new : Node) (s : ℕ) (o : Option Live) → get old.live s ≡ o → is_some o ≡ true
     → Moves (λ n. end_live n s) old new → Stands order old
@@ -195,7 +196,7 @@ began order old new s free plain inbox fold passed units locks rows st =
             units = subst (AreWorked order) (sym units) st.tables.units;
             room = omega (arith, had, same_room, same_spare);
           })
-          (subst (Facts order) (sym plain) (begin_keeps order (plain_of old) s None free st.facts));
+          (facts_begun order old new st s free plain);
     }
 
 -- ---- a commit is sent
@@ -228,8 +229,7 @@ commit_sent order old new s t is running some range plain inbox fold passed unit
             units = subst (AreWorked order) (sym units) st.tables.units;
             room = omega (arith, had, same_room, same_spare);
           })
-          (subst (Facts order) (ap (λ (p : Reply × ModelNode). p.1) taken ∙ sym plain)
-          (commit_keeps order (plain_of old) s (Some t) is running range st.facts));
+          (facts_sent order old new st s t is running range reply.Pending (ap (λ n. (reply.Pending, n)) plain ∙ sym taken));
     }
 
 -- the node with what a commit sends
@@ -252,3 +252,9 @@ pub some_done : (ops : List Op) (sent : ℕ) → (ops ≡ [] → sent ≡ 0 → 
 some_done [] zero some = absurd (some refl refl)
 some_done [] (suc n) some = eqb-suc-zero n
 some_done (x ∷ ops) sent some = ap (λ b. b && sent == 0) (eqb-suc-zero (length ops))
+
+-- a commit that changes something is sent
+pub sends : {T E : Type 0} (r : Result T E) (o : Option Live) (t : Live) → o ≡ Some t → (length t.ops == 0 && t.sent == 0) ≡ false
+    → OnErr r (IsTrue (sends_commit o))
+sends (Ok x) o t is some = tt
+sends (Err e) o t is some = ap sends_commit is ∙ ap not some

@@ -3,6 +3,7 @@ use Rattle.std.proofs.Common.{◌≡◌, ℕ, Bool, true, cond, List, refl, sym,
 use Rattle.std.specs.Prelude.{Option, Some, None, IsTrue}
 use Rattle.std.specs.Ordering.{nat_cmp, eq_by_cmp}
 use Rattle.std.specs.Cmp.{nat_cmp_total}
+use Rattle.finite_map.proofs.Edits.{numbers, itself, Inserted, AtKey, Elsewhere, inserted}
 use Rattle.finite_map.specs.FiniteMap.{get, insert, get-insert}
 use Rattle.key_sets.specs.Keys.{Keys}
 use Rattle.apply_unit.specs.Task.{ModelTask}
@@ -15,11 +16,10 @@ use Rattle.node_meaning.specs.Node.{ModelNode, ApplyUnit, locks_of}
 use Rattle.node_meaning.specs.Facts.{Facts}
 use Rattle.node_meaning.specs.Steps.{finish_stage, finish_unit, finish_step}
 use Rattle.node_meaning.specs.Units.{unit_task}
-use Rattle.node_meaning.proofs.EntryLaws.{number-itself, Inserted, Here, There, inserted}
 use Rattle.node_meaning.proofs.LockLaws.{locks_of-same_unit}
-use Rattle.node_meaning.proofs.FinishFacts.{finish_keeps}
 use Rattle.node_parts.specs.Units.{Work, UnitTable, finished, finished_unit, finished_work, is_started, is_started_stage}
 use Rattle.node_core.specs.declared.node.Node.{Node}
+use Rattle.node_core.proofs.KeptFacts.{facts_finished}
 use Rattle.node_core.specs.Stands.{Stands, Tables, AreWorked, IsWorked, DoneOver, plain_of}
 
 -- ---- the step
@@ -57,16 +57,16 @@ module _ (order : List Event) (table : UnitTable) (done : ModelTask) (worked : A
   here : IsWorked order done.number unit new
   here = record { rows = old.2.rows; task = ap Some task }
 
-  each : (q : ℕ) (v : ApplyUnit) → Inserted q done.number unit table.units v
+  each : (q : ℕ) (v : ApplyUnit) → Inserted numbers table.units done.number unit q v
       → (work : Work) × (get (insert table.work done.number new) q ≡ Some work) × IsWorked order q v work
-  each q v (Here key value) = (
+  each q v (AtKey key value) = (
     new,
     get-insert nat_cmp_total table.work done.number new q
         ∙ ap (λ k. cond (eq_by_cmp nat_cmp k done.number) (Some new) (get table.work q)) key
-        ∙ ap (λ b. cond b (Some new) (get table.work q)) (number-itself done.number),
+        ∙ ap (λ b. cond b (Some new) (get table.work q)) (itself numbers done.number),
     subst (λ (x : ℕ). IsWorked order x v new) (sym key) (subst (λ (x : ApplyUnit). IsWorked order done.number x new) (sym value) here),
   )
-  each q v (There differs elsewhere) =
+  each q v (Elsewhere differs elsewhere) =
       let other = worked.worked q v elsewhere in (
         other.0,
         get-insert nat_cmp_total table.work done.number new q ∙ ap (λ b. cond b (Some new) (get table.work q)) differs ∙ other.1,
@@ -74,7 +74,7 @@ module _ (order : List Event) (table : UnitTable) (done : ModelTask) (worked : A
       )
 
   put_worked : (room : ℕ) → AreWorked order (record { units = insert table.units done.number unit; work = insert table.work done.number new; room = room })
-  put_worked room = record { worked = λ q v h. each q v (inserted table.units done.number unit q v h) }
+  put_worked room = record { worked = λ q v h. each q v (inserted numbers table.units done.number unit q v h) }
 
   finished_worked : AreWorked order (finished table done)
   finished_worked =
@@ -118,7 +118,7 @@ module _ (order : List Event) (node : Node) (done : ModelTask) (stands : Stands 
           fold = stands.fold;
           passed = stands.passed;
           tables = tables own.0 own.1;
-          facts = subst (Facts order) (sym (ap (λ (p : Answer × ModelNode). p.1) same)) (finish_keeps order (plain_of node) done.number stands.facts);
+          facts = facts_finished order node after stands done.number (answer.Finished done.number) same;
         };
       }
 

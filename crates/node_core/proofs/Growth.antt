@@ -10,25 +10,14 @@ use Rattle.cert_meaning.proofs.FoldLaws.{state_at-append}
 use Rattle.node_meaning.specs.declared.progress.Stage.{Stage}
 use Rattle.node_meaning.specs.declared.progress.Stage.TheVariants as stage
 use Rattle.node_meaning.specs.Node.{ApplyUnit, rows_at}
-use Rattle.node_meaning.specs.Units.{ops_at, ops_by, rows_before, unit_task, images_of, named_rows}
-use Rattle.node_meaning.proofs.GrowFacts.{facts_grow, commit_at-append}
+use Rattle.node_meaning.specs.Units.{ops_at, rows_before, unit_task, images_of, named_rows}
+use Rattle.node_meaning.proofs.GrowFacts.{facts_grow, commit_at-append, ops_at-append}
 use Rattle.node_parts.specs.Units.{Work}
 use Rattle.node_core.specs.declared.node.Node.{Node}
 use Rattle.node_core.specs.Tabled.{Tabled}
 use Rattle.node_core.specs.Stands.{Stands, AreWorked, IsWorked, HasTask, KeepsChanges}
 
-get_front : {A : Type 0} (xs ys : List A) (n : ℕ) → suc n ≤ length xs → slice_get (xs ++ ys) n ≡ slice_get xs n
-get_front [] ys n below = absurd (omega (arith, below))
-get_front (x ∷ xs) ys zero below = refl
-get_front (x ∷ xs) ys (suc n) below = get_front xs ys n (omega (arith, below))
-
 module _ (order more : List Event) where
-  ops_at-append : (number : ℕ) → number ≤ length order → ops_at (order ++ more) number ≡ ops_at order number
-  ops_at-append zero fits = refl
-  ops_at-append (suc n) fits =
-      ap (λ s. ops_by s (slice_get (order ++ more) n)) (state_at-append order more n (omega (arith, fits)))
-      ∙ ap (ops_by (state_at order n)) (get_front order more n fits)
-
   rows_at-append : (n : ℕ) → n ≤ length order → rows_at (order ++ more) n ≡ rows_at order n
   rows_at-append n fits = ap (λ (s : FoldState). s.rows) (state_at-append order more n fits)
 
@@ -39,7 +28,7 @@ module _ (order more : List Event) where
   -- the work of a unit stays
   pub unit_task-append : (number : ℕ) → number ≤ length order → unit_task (order ++ more) number ≡ unit_task order number
   unit_task-append number fits =
-      ap (λ ops. task number ops (images_of ops (rows_before (order ++ more) number))) (ops_at-append number fits)
+      ap (λ ops. task number ops (images_of ops (rows_before (order ++ more) number))) (ops_at-append order more number fits)
       ∙ ap (λ rows. task number (ops_at order number) (images_of (ops_at order number) rows)) (rows_before-append number fits)
 
   task-append : (number : ℕ) (work : Work) (s : Stage) → number ≤ length order → HasTask order number work s
@@ -50,7 +39,7 @@ module _ (order more : List Event) where
   worked-append : (number : ℕ) (u : ApplyUnit) (work : Work) → number ≤ length order → IsWorked order number u work
       → IsWorked (order ++ more) number u work
   worked-append number u work fits h = record {
-    rows = h.rows ∙ ap (λ ops. length (named_rows ops)) (sym (ops_at-append number fits));
+    rows = h.rows ∙ ap (λ ops. length (named_rows ops)) (sym (ops_at-append order more number fits));
     task = task-append number work u.stage fits h.task;
   }
 
@@ -74,7 +63,7 @@ module _ (order more : List Event) where
       kept = λ number above within is.
           let fits : number ≤ length order = omega (arith, within, certified_fits) in
           st.passed.kept number above within (subst (λ c. IsTrue (is_some c)) (commit_at-append order more number fits) is)
-          ∙ ap Some (sym (ops_at-append number fits));
+          ∙ ap Some (sym (ops_at-append order more number fits));
       only = st.passed.only;
     }
 

@@ -6,6 +6,7 @@ use Rattle.std.specs.Map.{keys_of}
 use Rattle.std.specs.Ordering.{eq_by_cmp}
 use Rattle.std.proofs.lemmas.List.{map-append}
 use Rattle.std.proofs.lemmas.List.Sums.{fold_more}
+use Rattle.std.proofs.lemmas.Bool.{or_parts}
 use Rattle.finite_map.specs.FiniteMap.{get}
 use Rattle.row_model.specs.declared.row.RowId.{RowId}
 use Rattle.row_model.specs.declared.ops.Op.{Op}
@@ -120,15 +121,11 @@ others_last : (x q : RowId) (ids : List RowId) → AllByRecursion (λ y. row_eq 
 others_last x q [] all other = (other, tt)
 others_last x q (y ∷ ys) all other = (all.0, others_last x q ys all.1 other)
 
-neither : (a b : Bool) → a || b ≡ false → (a ≡ false) × (b ≡ false)
-neither true b h = absurd (true≢false h)
-neither false b h = (refl, h)
-
 distinct_last : (q : RowId) (ids : List RowId) → IsDistinct row_eq ids → list_any (row_eq q) ids ≡ false → IsDistinct row_eq (ids ++ q ∷ [])
 unfolding IsDistinct
 distinct_last q [] apart none = (tt, tt)
 distinct_last q (y ∷ ys) apart none =
-    let both = neither (row_eq q y) (list_any (row_eq q) ys) none in
+    let both = or_parts (row_eq q y) (list_any (row_eq q) ys) none in
     (others_last y q ys apart.0 (row_symmetric y q ∙ both.0), distinct_last q ys apart.1 both.1)
 
 distinct_by : (q : RowId) (ids : List RowId) (b : Bool) → list_any (eq_by_cmp row_cmp q) ids ≡ b → IsDistinct row_eq ids

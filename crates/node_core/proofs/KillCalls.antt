@@ -4,6 +4,7 @@ use Rattle.std.specs.Prelude.{Option, Some, None}
 use Rattle.std.proofs.lemmas.List.Sums.{fold_more}
 use Rattle.std.specs.Ordering.{nat_cmp, eq_by_cmp}
 use Rattle.std.specs.Cmp.{nat_cmp_total}
+use Rattle.finite_map.proofs.Edits.{numbers, insert-remove}
 use Rattle.finite_map.specs.FiniteMap.{FiniteMap, get, insert, remove, get-insert, get-remove}
 use Rattle.row_model.specs.declared.calls.Reply.{Reply}
 use Rattle.client_trx.specs.Live.{Live, has_locks, killed_in, killed_by}
@@ -49,19 +50,6 @@ killed_unlocked t u status.CommitSent n locks is = ap (λ (l : Live). has_locks 
 killed_unlocked t u (status.Certified m) n locks is = ap (λ (l : Live). has_locks l.status) (trx_of Lives Lives u _ is)
 killed_unlocked t u status.KilledSent n locks is = absurd cc
 killed_unlocked t u (status.Replaying m) n locks is = absurd cc
-
--- ---- put back after it was taken
-put_cond : (b : Bool) (u : Live) (o : Option Live) → cond b (Some u) (cond b None o) ≡ cond b (Some u) o
-put_cond true u o = refl
-put_cond false u o = refl
-
-put_back : (live : FiniteMap nat_cmp Live) (s : ℕ) (u : Live) → insert (remove live s) s u ≡ insert live s u
-put_back live s u =
-    same (insert (remove live s) s u) (insert live s u) (λ q.
-    get-insert nat_cmp_total (remove live s) s u q
-    ∙ ap (λ o. cond (eq_by_cmp nat_cmp q s) (Some u) o) (get-remove nat_cmp_total live s q)
-    ∙ put_cond (eq_by_cmp nat_cmp q s) u (get live q)
-    ∙ sym (get-insert nat_cmp_total live s u q))
 
 -- ---- the three cases
 pub kill_none : (old : Node) (live : FiniteMap nat_cmp Live) (number s : ℕ) → get old.live s ≡ None → live ≡ remove old.live s
@@ -111,7 +99,7 @@ module _ (old : Node) (number s : ℕ) (t : Live) (locks : LockState) (rows : Ro
   -- it has no locks, and stays as it is
   pub kill_idle : (live : FiniteMap nat_cmp Live) → has_locks t.status ≡ false → live ≡ insert (remove old.live s) s t
       → Aborts (λ n. kill_session number n s) old (record old { live = live; locks = locks; rows = rows })
-  kill_idle live none put = lives t live none (put ∙ put_back old.live s t) (sym (killed_idle t t.status number none))
+  kill_idle live none put = lives t live none (put ∙ insert-remove numbers old.live s t) (sym (killed_idle t t.status number none))
 
   -- it loses its locks
   pub kill_lives : (u : Live) (live : FiniteMap nat_cmp Live) → has_locks t.status ≡ true → live ≡ insert (remove old.live s) s u
@@ -119,7 +107,7 @@ module _ (old : Node) (number s : ℕ) (t : Live) (locks : LockState) (rows : Ro
       → Aborts (λ n. kill_session number n s) old (record old { live = live; locks = locks; rows = rows })
   kill_lives u live has put o is by =
       let killed : ◌≡◌ {A = Outcome × Live} (Lives, u) (killed_by number t) = ap (λ (p : Outcome). (p, u)) (sym is) ∙ by in
-      lives u live (killed_unlocked t u t.status number has killed) (put ∙ put_back old.live s u) killed
+      lives u live (killed_unlocked t u t.status number has killed) (put ∙ insert-remove numbers old.live s u) killed
 
   -- it ends
   pub kill_ends : (u : Live) (reply : Reply) (live : FiniteMap nat_cmp Live) (waiting : FiniteMap nat_cmp Reply) → live ≡ remove old.live s

@@ -5,9 +5,11 @@ pub mod CertifyStep
 pub mod ClientCalls
 pub mod FinishCalls
 pub mod Growth
+pub mod KeptFacts
 pub mod ImageCalls
 pub mod KillCalls
 pub mod NewCalls
+pub mod NodeLaws
 pub mod PutLoop
 pub mod Standing
 pub mod StartCalls

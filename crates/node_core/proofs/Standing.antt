@@ -2,15 +2,15 @@
 use Rattle.std.proofs.Common.{◌≡◌, ℕ, zero, suc, ◌+◌, ◌≤◌, ◌<◌, List, [], ◌∷◌, ◌++◌, length, take, drop, Some, refl, ap, sym, subst, ◌∙◌, arith, add-one, length-take-le}
 use Rattle.std.specs.Prelude.{slice_get}
 use Rattle.std.proofs.lemmas.List.{drop-append-le}
+use Rattle.std.proofs.lemmas.Option.{same_Some}
 use Rattle.order_event.specs.declared.event.Event.{Event}
-use Rattle.node_meaning.proofs.EntryLaws.{some_is}
 use Rattle.node_core.specs.declared.node.Node.{Node}
 use Rattle.node_core.specs.Stands.{Unchanged}
 
 -- ---- the inbox
 take_more : {A : Type 0} (xs : List A) (n : ℕ) (x : A) → slice_get xs n ≡ Some x → take (suc n) xs ≡ take n xs ++ x ∷ []
 take_more [] n x there = cc
-take_more (y ∷ ys) zero x there = ap (λ z. z ∷ []) (some_is y x there)
+take_more (y ∷ ys) zero x there = ap (λ z. z ∷ []) (same_Some y x there)
 take_more (y ∷ ys) (suc n) x there = ap (λ zs. y ∷ zs) (take_more ys n x there)
 
 -- one more event is taken

@@ -1,6 +1,6 @@
 -- Starting a unit: which step it is by what was read, and the task that it gives.
 use Rattle.std.proofs.Common.{◌≡◌, ℕ, ◌≤◌, ◌<◌, Bool, true, false, cond, List, [], ◌∷◌, length, Option, Some, None, Result, Ok, Err, refl, sym, ap, subst, ◌∙◌, arith, true≢false, lt-ltb, eqb-true}
-use Rattle.std.specs.Prelude.{OnErr, is_some, nat_lt, ◌==◌, ◌&&◌, map, unwrap_or}
+use Rattle.std.specs.Prelude.{OnErr, IfOk, IfErr, is_ok, is_some, nat_lt, ◌==◌, ◌&&◌, map, unwrap_or}
 use Rattle.std.specs.List.{filter}
 use Rattle.finite_map.specs.FiniteMap.{get}
 use Rattle.wsrep_base.specs.Trx.{greatest}
@@ -22,7 +22,11 @@ use Rattle.node_meaning.proofs.PassedLaws.{passed-committed, from_passed, none_t
 use Rattle.node_meaning.proofs.UnitLaws.{task-clear}
 use Rattle.node_core.specs.declared.node.Node.{Node}
 use Rattle.node_core.specs.Stands.{Stands, DoneOver, plain_of}
-use Rattle.node_core.specs.Starting.{CanStart, unit_started}
+use Rattle.node_core.specs.declared.answers.Started.{Started}
+use Rattle.node_core.specs.declared.answers.Started.TheVariants as refused
+use Rattle.node_core.specs.Answers.{started_answer, GivesTask}
+use Rattle.node_core.specs.Memory.{is_start, starts, StartWants}
+use Rattle.node_core.specs.Starting.{CanStart, IsStartable, IsRefused, unit_started}
 
 -- what holds anyway holds where there is a fault
 pub on_err : {A B P : Type 0} (r : Result A B) → P → OnErr r P
@@ -97,9 +101,33 @@ module _ (committed number : ℕ) (keys : Keys) where
   between_is cs = ap (λ found. greatest (map (λ (c : CommitItem). c.number) found)) (same_between cs)
 
 -- the node stands as it did
-stays : (order : List Event) (node : Node) (number : ℕ) (a : Answer) → Stands order node → (a, plain_of node) ≡ start_step order (plain_of node) number
-    → DoneOver order (λ n. start_step order n number) node node a
-stays order node number a stands same = record { same = same; stands = stands }
+stays : (order : List Event) (node : Node) (number : ℕ) (r : Started) → Stands order node
+    → (started_answer number r, plain_of node) ≡ start_step order (plain_of node) number
+    → is_start (started_answer number r) ≡ false → GivesTask order number r → IsRefused order node number r
+stays order node number r stands same idle task = record { done = record { same = same; stands = stands }; idle = idle; task = task }
+
+-- whether the unit starts, by the answer
+starts_not : (order : List Event) (node : Node) (number : ℕ) (r : Started) → IsRefused order node number r → false ≡ starts order (plain_of node) number
+starts_not order node number r stays = sym stays.idle ∙ ap (λ (p : Answer × ModelNode). is_start p.0) stays.done.same
+
+starts_now : (order : List Event) (node : Node) (number : ℕ) (keys : Keys) → IsStartable order node number keys → starts order (plain_of node) number ≡ true
+starts_now order node number keys may = ap (λ (p : Answer × ModelNode). is_start p.0) may.is
+
+pub starts_by : {A : Type 0} (keys : A → Keys) (node : Node) (number : ℕ) (r : Result A Started)
+    → IfOk r (λ k. (order : List Event) → Stands order node → IsStartable order node number (keys k))
+    → IfErr r (λ e. (order : List Event) → Stands order node → IsRefused order node number e)
+    → (order : List Event) → Stands order node → is_ok r ≡ starts order (plain_of node) number
+starts_by keys node number (Ok k) ok err order stands = sym (starts_now order node number (keys k) (ok order stands))
+starts_by keys node number (Err e) ok err order stands = starts_not order node number e (err order stands)
+
+-- memory may be wanted where the unit starts
+pub wants_start : (order : List Event) (node : Node) (number : ℕ) (keys : Keys) → IsStartable order node number keys → StartWants order (plain_of node) number
+wants_start order node number keys may = starts_now order node number keys may
+
+-- what the start of the unit does is what the model does
+pub starts_done : (order : List Event) (node : Node) (number : ℕ) (keys : Keys) (after : Node) (a : Answer) → IsStartable order node number keys
+    → DoneOver order (unit_started number keys) node after a → DoneOver order (λ n. start_step order n number) node after a
+starts_done order node number keys after a may done = record { same = done.same ∙ sym may.is; stands = done.stands }
 
 module _ (order : List Event) (node : Node) (number : ℕ) (stands : Stands order node) where
   abbrev n : ModelNode
@@ -118,16 +146,16 @@ module _ (order : List Event) (node : Node) (number : ℕ) (stands : Stands orde
       (start_after n number commit.keys (greatest (touching_before (ahead order node.at.committed node.at.certified) number commit.keys)))))
       (is ∙ yes_there))
 
-  pub start_committed : number ≤ node.at.committed → DoneOver order (λ n. start_step order n number) node node (answer.NoUnit number)
+  pub start_committed : number ≤ node.at.committed → IsRefused order node number refused.NoUnit
   start_committed done =
-      stays order node number (answer.NoUnit number) stands
-      (sym (step_by None (passed-committed order node.at.committed node.at.certified number done)))
+      stays order node number refused.NoUnit stands
+      (sym (step_by None (passed-committed order node.at.committed node.at.certified number done))) refl tt
 
-  pub start_again : is_some (get node.units.units number) ≡ true → DoneOver order (λ n. start_step order n number) node node (answer.NoUnit number)
+  pub start_again : is_some (get node.units.units number) ≡ true → IsRefused order node number refused.NoUnit
   start_again there =
-      stays order node number (answer.NoUnit number) stands
+      stays order node number refused.NoUnit stands
       (no_unit_by (passed_at order node.at.committed node.at.certified number) (is_some (get node.units.units number)) refl there
-      ∙ sym (step_by (passed_at order node.at.committed node.at.certified number) refl))
+      ∙ sym (step_by (passed_at order node.at.committed node.at.certified number) refl)) refl tt
 
   module _ (above : node.at.committed < number) where
     read_is : passed_at order node.at.committed node.at.certified number ≡ commit_numbered number node.fold.commits
@@ -135,8 +163,8 @@ module _ (order : List Event) (node : Node) (number : ℕ) (stands : Stands orde
         numbered_ahead node.at.committed number (state_at order node.at.certified).commits above
         ∙ ap (λ (s : FoldState). commit_numbered number s.commits) (sym stands.fold)
 
-    pub start_nothing : commit_numbered number node.fold.commits ≡ None → DoneOver order (λ n. start_step order n number) node node (answer.NoUnit number)
-    start_nothing none = stays order node number (answer.NoUnit number) stands (sym (step_by None (read_is ∙ none)))
+    pub start_nothing : commit_numbered number node.fold.commits ≡ None → IsRefused order node number refused.NoUnit
+    start_nothing none = stays order node number refused.NoUnit stands (sym (step_by None (read_is ∙ none))) refl tt
 
     module _ (commit : CommitItem) (found : commit_numbered number node.fold.commits ≡ Some commit)
         (fresh : is_some (get node.units.units number) ≡ false) where
@@ -150,11 +178,11 @@ module _ (order : List Event) (node : Node) (number : ℕ) (stands : Stands orde
           (start_after n number commit.keys (greatest (touching_before (ahead order node.at.committed node.at.certified) number commit.keys)))))
           fresh
 
-      pub start_local : is_local node.live number ≡ true → DoneOver order (λ n. start_step order n number) node node (answer.Local number)
+      pub start_local : is_local node.live number ≡ true → IsRefused order node number refused.Local
       start_local here =
-          stays order node number (answer.Local number) stands
+          stays order node number refused.Local stands
           (sym (step_is ∙ ap (λ b. cond {A = Answer × ModelNode} b (answer.Local number, n)
-          (start_after n number commit.keys (greatest (touching_before (ahead order node.at.committed node.at.certified) number commit.keys)))) here))
+          (start_after n number commit.keys (greatest (touching_before (ahead order node.at.committed node.at.certified) number commit.keys)))) here)) refl tt
 
       module _ (remote : is_local node.live number ≡ false) (way : Option ℕ)
           (seen : way ≡ greatest (touching_before (filter (λ (c : CommitItem). nat_lt node.at.committed c.number) node.fold.commits) number commit.keys)) where
@@ -170,9 +198,9 @@ module _ (order : List Event) (node : Node) (number : ℕ) (stands : Stands orde
             (start_after n number commit.keys (greatest (touching_before (ahead order node.at.committed node.at.certified) number commit.keys)))) remote
             ∙ ap (start_after n number commit.keys) way_is
 
-        pub start_later : (earlier : ℕ) → way ≡ Some earlier → DoneOver order (λ n. start_step order n number) node node (answer.NotYet earlier)
+        pub start_later : (earlier : ℕ) → way ≡ Some earlier → IsRefused order node number (refused.NotYet earlier)
         start_later earlier is =
-            stays order node number (answer.NotYet earlier) stands (sym (after_is ∙ ap (start_after n number commit.keys) is))
+            stays order node number (refused.NotYet earlier) stands (sym (after_is ∙ ap (start_after n number commit.keys) is)) refl tt
 
         none_from : (o : Option ApplyUnit) → is_some o ≡ false → o ≡ None
         none_from None h = refl
@@ -181,7 +209,7 @@ module _ (order : List Event) (node : Node) (number : ℕ) (stands : Stands orde
         certified_inside : node.at.certified ≤ length order
         certified_inside = omega (arith, stands.facts.in_order.certified_fits, stands.facts.in_order.taken_fits)
 
-        pub can_start : way ≡ None → CanStart order node number commit.keys
+        can_start : way ≡ None → CanStart order node number commit.keys
         can_start none =
             let passed = from_passed order node.at.committed node.at.certified number commit certified_inside (read_is ∙ found) in
             record {
@@ -196,9 +224,5 @@ module _ (order : List Event) (node : Node) (number : ℕ) (stands : Stands orde
               clear = none_touching order node.at.committed node.at.certified number commit.keys certified_inside passed.within (way_is ∙ none);
             }
 
-        pub start_done : way ≡ None → (after : Node) (a : Answer) → DoneOver order (unit_started number commit.keys) node after a
-            → DoneOver order (λ n. start_step order n number) node after a
-        start_done none after a done = record {
-          same = done.same ∙ sym (after_is ∙ ap (start_after n number commit.keys) none);
-          stands = done.stands;
-        }
+        pub startable : way ≡ None → IsStartable order node number commit.keys
+        startable none = record { can = can_start none; is = after_is ∙ ap (start_after n number commit.keys) none }

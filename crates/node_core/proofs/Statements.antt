@@ -4,6 +4,8 @@ use Rattle.std.specs.Prelude.{Option, Some, None, IfOk, OnErr, IfSome, option_ma
 use Rattle.std.specs.Ordering.{nat_cmp, eq_by_cmp}
 use Rattle.std.specs.Cmp.{nat_cmp_total}
 use Rattle.std.specs.FinMap.{nat_cmp-IsAntisymmetric}
+use Rattle.std.proofs.lemmas.Option.{same_Some}
+use Rattle.finite_map.proofs.Edits.{numbers, tied, insert-there, remove-absent, insert-remove}
 use Rattle.finite_map.specs.FiniteMap.{FiniteMap, get, empty, insert, remove, get-empty, get-insert, get-remove, same_map}
 use Rattle.key_sets.specs.declared.kind.Kind.{Kind}
 use Rattle.key_sets.specs.declared.parts.Parts.{Parts}
@@ -31,26 +33,23 @@ use Rattle.row_model.specs.declared.calls.Call.{Call}
 use Rattle.node_meaning.specs.Node.{ModelNode, is_left, is_joining, rows_at, locks_of, set_live}
 use Rattle.node_meaning.specs.Client as client
 use Rattle.node_meaning.specs.Client.{first_line, where_true, refusal, met_by, extended, statement, statement_by, accepted_reply, is_pending}
-use Rattle.node_meaning.proofs.EntryLaws.{number-exact}
 use Rattle.node_core.specs.declared.node.Node.{Node}
 use Rattle.node_core.specs.declared.refusal.Met.{Met}
 use Rattle.node_core.specs.Client.{hindrance, closed_by}
 use Rattle.node_core.specs.Statement.{met_at, told_and_put, changes_after}
 use Rattle.node_core.specs.Tabled.{Tabled}
 use Rattle.node_meaning.specs.Facts.{Facts}
-use Rattle.node_meaning.proofs.ClientFacts.{StatementFits, statement_keeps, told_keeps}
+use Rattle.node_meaning.proofs.ClientFacts.{StatementFits}
 use Rattle.node_meaning.proofs.LockLaws.{locks_of-with_lock}
 use Rattle.node_core.proofs.Tabling.{tabled-same}
 use Rattle.node_core.proofs.TabledWrites.{tabled-written, free_row, key_changes}
+use Rattle.node_core.proofs.KeptFacts.{facts_extended, facts_told}
 use Rattle.node_core.specs.Stands.{Stands, Does, DoneOver, AreWorked, Unchanged, plain_of}
 use Rattle.node_core.proofs.ClientCalls.{sees, stands_by, unchanged_stands, running_locks}
 
 pub no_both : (b : Bool) → b ≡ true → b ≡ false → ⊥
 no_both true t f = absurd (true≢false f)
 no_both false t f = absurd (true≢false (sym t))
-
-same_some : {A : Type 0} (a b : A) → Some a ≡ Some b → a ≡ b
-same_some a b e = cc
 
 some_none : {A : Type 0} (a : A) → Some a ≡ None → ⊥
 some_none a e = cc
@@ -70,53 +69,21 @@ pub err_map : {A E : Type 0} (P Q : Type 0) (r : Result A E) → (P → Q) → O
 err_map P Q (Ok x) f h = tt
 err_map P Q (Err e) f h = f h
 
--- ---- a session's entry
-module _ {X : Type 0} (m : FiniteMap nat_cmp X) (s : ℕ) where
-  pub remove_absent : get m s ≡ None → remove m s ≡ m
-  remove_absent none =
-      same_map nat_cmp_total nat_cmp-IsAntisymmetric (remove m s) m
-      (λ q. get-remove nat_cmp_total m s q ∙ by q (eq_by_cmp nat_cmp q s) refl)
-    where
-      by : (q : ℕ) (b : Bool) → eq_by_cmp nat_cmp q s ≡ b → cond b None (get m q) ≡ get m q
-      by q true tie = sym (ap (get m) (number-exact q s tie) ∙ none)
-      by q false other = refl
-
-  pub put_after_take : (x : X) → insert (remove m s) s x ≡ insert m s x
-  put_after_take x =
-      same_map nat_cmp_total nat_cmp-IsAntisymmetric (insert (remove m s) s x) (insert m s x)
-      (λ q. get-insert nat_cmp_total (remove m s) s x q
-      ∙ ap (cond (eq_by_cmp nat_cmp q s) (Some x)) (get-remove nat_cmp_total m s q)
-      ∙ by (eq_by_cmp nat_cmp q s) (get m q)
-      ∙ sym (get-insert nat_cmp_total m s x q))
-    where
-      by : (b : Bool) (o : Option X) → cond b (Some x) (cond b None o) ≡ cond b (Some x) o
-      by true o = refl
-      by false o = refl
-
-  pub put_same : (x : X) → get m s ≡ Some x → insert m s x ≡ m
-  put_same x is =
-      same_map nat_cmp_total nat_cmp-IsAntisymmetric (insert m s x) m
-      (λ q. get-insert nat_cmp_total m s x q ∙ by q (eq_by_cmp nat_cmp q s) refl)
-    where
-      by : (q : ℕ) (b : Bool) → eq_by_cmp nat_cmp q s ≡ b → cond b (Some x) (get m q) ≡ get m q
-      by q true tie = sym (ap (get m) (number-exact q s tie) ∙ is)
-      by q false other = refl
-
 -- ---- the transaction is taken out and put back
 pub extended_told : (node : Node) (s : ℕ) (trx t new : Live) (live : FiniteMap nat_cmp Live) (told : Added) (p : Parts) (k : Kind)
     (o : Option Op) → Some trx ≡ get node.live s → get node.live s ≡ Some t → (told, new) ≡ add_by trx p k o
     → live ≡ insert (remove node.live s) s new
     → (told, record node { live = live }) ≡ told_and_put node s (add_by t p k o)
 extended_told node s trx t new live told p k o mine there both live_is =
-    let same : trx ≡ t = same_some trx t (mine ∙ there) in
+    let same : trx ≡ t = same_Some trx t (mine ∙ there) in
     let all : (told, new) ≡ add_by t p k o = both ∙ ap (λ t. add_by t p k o) same in
-    ap (λ l. (told, record node { live = l })) (live_is ∙ put_after_take node.live s new) ∙ ap (told_and_put node s) all
+    ap (λ l. (told, record node { live = l })) (live_is ∙ insert-remove numbers node.live s new) ∙ ap (told_and_put node s) all
 
 pub put_back : (node : Node) (s : ℕ) (trx new : Live) (live : FiniteMap nat_cmp Live) → Some trx ≡ get node.live s → new ≡ trx
     → live ≡ insert (remove node.live s) s new → record node { live = live } ≡ node
 put_back node s trx new live mine same live_is =
     ap (λ l. record node { live = l })
-    (live_is ∙ put_after_take node.live s new ∙ ap (insert node.live s) same ∙ put_same node.live s trx (sym mine))
+    (live_is ∙ insert-remove numbers node.live s new ∙ ap (insert node.live s) same ∙ insert-there numbers node.live s trx (sym mine))
 
 -- ---- why a statement is refused
 more_or_none : (o : Option Reply) (large : Option Reply)
@@ -169,7 +136,7 @@ module _ (order : List Event) (node : Node) (session : ℕ) (id : RowId) (kind :
 pub met_is : (node : Node) (session : ℕ) (id : RowId) (kind : Kind) (o : Option Live) (m : Met)
     → Some m ≡ option_map (met_at node session id kind) o → (t : Live) → o ≡ Some t → m ≡ met_at node session id kind t
 met_is node session id kind o m met t is =
-    same_some m (met_at node session id kind t) (met ∙ ap (option_map (met_at node session id kind)) is)
+    same_Some m (met_at node session id kind t) (met ∙ ap (option_map (met_at node session id kind)) is)
 
 refused_by : (order : List Event) (node : Node) (session : ℕ) (id : RowId) (kind : Kind) (change : Option Op) (t : Live)
     → get node.live session ≡ Some t → is_pending (Some t) ≡ false → (m : Met) → m ≡ met_at node session id kind t
@@ -260,7 +227,7 @@ module _ (order : List Event) (c0 c1 c2 : Node) (session : ℕ) (id : RowId) (ki
       → DoneOver order (λ n. statement order n session (get n.live session) asked) c0 c2 reply.TooLarge
   grown_too_large too =
       let large : is_too_large more ≡ true = told_large (is_too_large more) change t more (sym told_is ∙ too) in
-      let left : c2 ≡ c1 = after_add true large ∙ ap (λ l. record c1 { live = l }) (put_same c1.live session t live_is) in
+      let left : c2 ≡ c1 = after_add true large ∙ ap (λ l. record c1 { live = l }) (insert-there numbers c1.live session t live_is) in
       record {
         same =
             ap (λ n. (reply.TooLarge, n)) (ap plain_of left ∙ same.plain) ∙ sym (statement_is true large)
@@ -327,10 +294,10 @@ module _ (order : List Event) (c0 c1 c2 : Node) (session : ℕ) (id : RowId) (ki
         let plain0 : plain_of c3 ≡ set_live (plain_of c0) session more = plain_is ∙ ap (λ n. set_live n session more) same.plain in
         let row_is : m.row ≡ (met_by order (plain_of c0) session t asked).row =
         ap (λ (m : Met). m.row) met ∙ row_same order c0 session id kind change t is free st in
+        let done_is : (accepted_reply m.row change, plain_of c3) ≡ statement order (plain_of c0) session (Some t) asked =
+        (λ i. (accepted_reply (row_is i) change, plain0 i)) ∙ sym taken in
         record {
-          same =
-              (λ i. (accepted_reply (row_is i) change, plain0 i)) ∙ sym taken
-              ∙ ap (λ o. statement order (plain_of c0) session o asked) (sym is);
+          same = done_is ∙ ap (λ o. statement order (plain_of c0) session o asked) (sym is);
           stands = stands_by order c1 c3 st1 (ap (λ (n : ModelNode). n.at.committed) plain_is)
               (ap (λ (n : ModelNode). n.at.certified) plain_is) (ap (λ (n : ModelNode). n.at.taken) plain_is)
               (ap (λ (n : Node). n.inbox) others ∙ ap (λ (n : Node). n.inbox) grown)
@@ -344,8 +311,7 @@ module _ (order : List Event) (c0 c1 c2 : Node) (session : ℕ) (id : RowId) (ki
                     (sym (ap (λ (n : Node). n.units) others ∙ ap (λ (n : Node). n.units) grown)) st1.tables.units;
                 room = omega (arith, room, unit_room, new_room, mid_spare, spare);
               })
-              (subst (Facts order) (ap (λ (p : Reply × ModelNode). p.1) taken ∙ sym plain0)
-              (statement_keeps order (plain_of c0) session (Some t) is free asked fits st.facts));
+              (facts_extended order c0 c3 st session t is free asked fits (accepted_reply m.row change) done_is);
         }
 
 -- a statement is only made of a live transaction
@@ -398,14 +364,13 @@ module _ (order : List Event) (old : Node) (session : ℕ) (c : Call) (waiting :
             units = st.tables.units;
             room = st.tables.room;
           };
-          facts = subst (λ w. Facts order (record n { waiting = w })) (sym left)
-              (told_keeps order n session (Some said) (said, n) st.facts st.facts);
+          facts = facts_told order old (record old { waiting = waiting }) st session said (ap (λ w. record n { waiting = w }) left);
         };
       }
 
   module _ (none : get old.waiting session ≡ None) where
     pub as_before : record old { waiting = waiting } ≡ old
-    as_before = ap (λ w. record old { waiting = w }) (left ∙ remove_absent old.waiting session none)
+    as_before = ap (λ w. record old { waiting = w }) (left ∙ remove-absent numbers old.waiting session none)
 
     -- a call that is not done
     pub not_done : (why : Reply) → closed_by old.at (get old.live session) ≡ Some why
@@ -437,4 +402,4 @@ pub unchanged_before : (old new : Node) (session : ℕ) (waiting : FiniteMap nat
     → get old.waiting session ≡ None → Unchanged (record old { waiting = waiting }) new → Unchanged old new
 unchanged_before old new session waiting left none same =
     subst (λ n. Unchanged n new)
-    (ap (λ w. record old { waiting = w }) (left ∙ remove_absent old.waiting session none)) same
+    (ap (λ w. record old { waiting = w }) (left ∙ remove-absent numbers old.waiting session none)) same

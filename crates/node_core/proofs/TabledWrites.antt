@@ -6,6 +6,8 @@ use Rattle.std.specs.Ordering.{nat_cmp, eq_by_cmp}
 use Rattle.std.specs.Cmp.{nat_cmp_total}
 use Rattle.std.specs.List.{list_any}
 use Rattle.std.proofs.lemmas.Cmp.{eq_by_cmp_equiv}
+use Rattle.std.proofs.lemmas.Option.{same_Some}
+use Rattle.finite_map.proofs.Edits.{numbers, tied, itself, untied}
 use Rattle.finite_map.specs.FiniteMap.{FiniteMap, empty, get, insert, get-insert}
 use Rattle.key_sets.specs.declared.kind.Kind.{Kind}
 use Rattle.key_sets.specs.declared.parts.Parts.{Parts}
@@ -29,7 +31,6 @@ use Rattle.undo_rows.specs.RowTable.{RowTable, Change, Changes, seen, other_owne
 use Rattle.order_event.specs.declared.event.Event.{Event}
 use Rattle.node_meaning.specs.Node.{ModelNode, locks_of}
 use Rattle.node_meaning.specs.Facts.{Facts}
-use Rattle.node_meaning.proofs.EntryLaws.{number-exact, number-itself, not_itself}
 use Rattle.node_meaning.proofs.CoveredLaws.{AllCovered, all_from_rules}
 use Rattle.node_meaning.proofs.LockLaws.{keys_at-session, keys_of_live, free-blocker}
 use Rattle.node_core.specs.Tabled.{Tabled, Owns, changes_row}
@@ -38,9 +39,6 @@ use Rattle.node_core.proofs.Tabling.{LiveAfter, New, Old, put_live, tabled_sees}
 no_both : (b : Bool) → b ≡ true → b ≡ false → ⊥
 no_both true t f = absurd (true≢false f)
 no_both false t f = absurd (true≢false (sym t))
-
-same_some : {A : Type 0} (a b : A) → Some a ≡ Some b → a ≡ b
-same_some a b e = cc
 
 none_some : {A : Type 0} (a : A) → Some a ≡ None → ⊥
 none_some a e = cc
@@ -101,7 +99,7 @@ owned_by_other : (s o : ℕ) (row : Option (List ℕ)) (change : Option Change) 
 owned_by_other s o row change is other none = by (o == s) refl
   where
     by : (b : Bool) → (o == s) ≡ b → ⊥
-    by true same = not_itself o s other (eqb-true o s same)
+    by true same = untied numbers o s other (eqb-true o s same)
     by false differs = none_some o (ap (λ b. cond b None (Some o)) (sym differs) ∙ ap (other_owner s) (sym is) ∙ none)
 
 module _ (rows : Rows) (live : FiniteMap nat_cmp Live) (table after : RowTable) (tabled : Tabled rows live table) (s : ℕ) (t u : Live)
@@ -151,7 +149,7 @@ module _ (rows : Rows) (live : FiniteMap nat_cmp Live) (table after : RowTable) 
   own_owner : (id : RowId) → changes_row id u.ops ≡ true → Owns (insert live s u) s id
   own_owner id names = record {
     trx = u;
-    is_live = get-insert nat_cmp_total live s u s ∙ ap (λ b. cond b (Some u) (get live s)) (number-itself s);
+    is_live = get-insert nat_cmp_total live s u s ∙ ap (λ b. cond b (Some u) (get live s)) (itself numbers s);
     locks = has;
     changes = names;
   }
@@ -164,8 +162,8 @@ module _ (rows : Rows) (live : FiniteMap nat_cmp Live) (table after : RowTable) 
     changes = owns.changes;
   }
   kept_owner k id owns true tie =
-      let is : k ≡ s = number-exact k s tie in
-      let own : owns.trx ≡ t = same_some owns.trx t (sym owns.is_live ∙ ap (get live) is ∙ there) in
+      let is : k ≡ s = tied numbers k s tie in
+      let own : owns.trx ≡ t = same_Some owns.trx t (sym owns.is_live ∙ ap (get live) is ∙ there) in
       subst (λ n. Owns (insert live s u) n id) (sym is) (own_owner id
       (names_more id ∙ or_first (changes_row id t.ops) (names_row id o)
       (ap (λ (l : Live). changes_row id l.ops) (sym own) ∙ owns.changes)))
@@ -175,7 +173,7 @@ module _ (rows : Rows) (live : FiniteMap nat_cmp Live) (table after : RowTable) 
   written_owner k row id h true named =
       let c : Some (s, row_after (seen table s (id_of o)) o) ≡ Some (k, row) =
       ap (λ b. cond b (Some (s, row_after (seen table s (id_of o)) o)) (get table.changes id)) (sym named) ∙ sym (get_after id) ∙ h in
-      let is : s ≡ k = ap (λ (p : Change). p.0) (same_some (s, row_after (seen table s (id_of o)) o) (k, row) c) in
+      let is : s ≡ k = ap (λ (p : Change). p.0) (same_Some (s, row_after (seen table s (id_of o)) o) (k, row) c) in
       subst (λ n. Owns (insert live s u) n id) is
       (own_owner id (names_more id ∙ or_last (changes_row id t.ops) (names_row id o) named))
   written_owner k row id h false named =
@@ -224,7 +222,7 @@ free_row order n rows table f tabled s id k changes none = by (get table.changes
     touched : (o : ℕ) → Owns n.live o id → (o == s) ≡ false → ⊥
     touched o owns differs =
         let locks = locks_of n.live n.units in
-        let fit = (f.own o owns.trx owns.is_live).fit in
+        let fit = (f.sendable o owns.trx owns.is_live).fit in
         let covered : covers owns.trx.keys (row_parts id) ≡ true =
         covers_changed owns.trx.keys id owns.trx.ops (all_from_rules 0 owns.trx.keys owns.trx.ops fit.covered) owns.changes in
         let at : keys_at locks (Session o) ≡ owns.trx.keys =
@@ -240,7 +238,7 @@ free_row order n rows table f tabled s id k changes none = by (get table.changes
         other s o differs = differing (eq_by_cmp nat_cmp s o) refl
           where
             differing : (b : Bool) → eq_by_cmp nat_cmp s o ≡ b → b ≡ false
-            differing true tie = absurd (no_both (o == s) (eq-eqb o s (sym (number-exact s o tie))) differs)
+            differing true tie = absurd (no_both (o == s) (eq-eqb o s (sym (tied numbers s o tie))) differs)
             differing false tie = refl
 
     by_owner : (o : ℕ) (row : Option (List ℕ)) → get table.changes id ≡ Some (o, row) → (b : Bool) → (o == s) ≡ b

@@ -1,9 +1,11 @@
 -- What steps of transactions leave of a table of rows.
 use Rattle.std.proofs.Common.{◌≡◌, ℕ, Bool, true, false, List, [], refl, sym, ap, subst, ◌∙◌}
 use Rattle.std.specs.Prelude.{Option, Some, None, cond, not, ◌==◌}
-use Rattle.std.proofs.lemmas.Bool.{eqb-true, eq-eqb}
+use Rattle.std.proofs.lemmas.Bool.{eqb-true, eq-eqb, false_from_ne_true}
 use Rattle.std.specs.Ordering.{nat_cmp, eq_by_cmp}
 use Rattle.std.specs.Cmp.{nat_cmp_total}
+use Rattle.std.proofs.lemmas.Option.{same_Some}
+use Rattle.finite_map.proofs.Edits.{numbers, tied, itself, untied}
 use Rattle.finite_map.specs.FiniteMap.{FiniteMap, get, insert, remove, get-insert, get-remove, same_map}
 use Rattle.std.specs.List.{list_any}
 use Rattle.row_model.specs.declared.row.RowId.{RowId}
@@ -15,15 +17,11 @@ use Rattle.apply_unit.proofs.RowLemmas.{get-unnamed, get-ops_on}
 use Rattle.client_trx.specs.Live.{Live, has_locks}
 use Rattle.undo_rows.specs.RowTable.{RowTable, Change, Changes, seen, seen_of, without, is_owned_by}
 use Rattle.undo_rows.proofs.RowTableLemmas.{get-without}
-use Rattle.node_meaning.proofs.EntryLaws.{number-exact, number-itself, not_itself}
 use Rattle.node_core.specs.Tabled.{Tabled, Owns, changes_row}
 
 no_both : (b : Bool) → b ≡ true → b ≡ false → ⊥
 no_both true t f = absurd cc
 no_both false t f = absurd cc
-
-same_some : {A : Type 0} (a b : A) → Some a ≡ Some b → a ≡ b
-same_some a b e = cc
 
 -- an owner sees its own change
 sees_own : (owner : ℕ) (row committed : Option (List ℕ)) → seen_of owner (Some (owner, row)) committed ≡ row
@@ -41,15 +39,11 @@ owner_of session None P gives owned = absurd cc
 owner_of session (Some change) P gives owned =
     gives change.1 (ap (λ o. Some (o, change.1)) (eqb-true change.0 session owned))
 
-by_bool : (b : Bool) → (b ≡ true → ⊥) → b ≡ false
-by_bool true no_true = absurd (no_true refl)
-by_bool false no_true = refl
-
 -- a session owns no row that its transaction does not change, or that it changes without locks
 pub not_owned : (rows : Rows) (live : FiniteMap nat_cmp Live) (table : RowTable) → Tabled rows live table → (session : ℕ) (id : RowId)
     → (Owns live session id → ⊥) → is_owned_by session (get table.changes id) ≡ false
 not_owned rows live table tabled session id none =
-    by_bool (is_owned_by session (get table.changes id))
+    false_from_ne_true (is_owned_by session (get table.changes id))
     (owner_of session (get table.changes id) ⊥ (λ row is. none (tabled.owner session row id is)))
 
 sees_by : (b : Bool) (rows : Rows) (table : RowTable) (session : ℕ) (t : Live) (id : RowId) → changes_row id t.ops ≡ b
@@ -71,7 +65,7 @@ tabled_sees rows live table tabled session t id there locks =
     (tabled.owned session t id there locks)
     (λ none. not_owned rows live table tabled session id
     (λ owns. no_both (changes_row id t.ops)
-    (subst (λ (u : Live). changes_row id u.ops ≡ true) (same_some owns.trx t (sym owns.is_live ∙ there)) owns.changes) none))
+    (subst (λ (u : Live). changes_row id u.ops ≡ true) (same_Some owns.trx t (sym owns.is_live ∙ there)) owns.changes) none))
 
 -- a session without such a transaction sees the committed rows
 pub tabled_committed : (rows : Rows) (live : FiniteMap nat_cmp Live) (table : RowTable) → Tabled rows live table → (session : ℕ)
@@ -102,7 +96,7 @@ get_other live s o t u there other =
     get-insert nat_cmp_total live s u o ∙ ap (λ b. cond b (Some u) (get live o)) other ∙ there
 
 get_new : (live : FiniteMap nat_cmp Live) (s : ℕ) (u : Live) → get (insert live s u) s ≡ Some u
-get_new live s u = get-insert nat_cmp_total live s u s ∙ ap (λ b. cond b (Some u) (get live s)) (number-itself s)
+get_new live s u = get-insert nat_cmp_total live s u s ∙ ap (λ b. cond b (Some u) (get live s)) (itself numbers s)
 
 -- a live transaction after one is put at a session: that one, or one of another session
 pub data LiveAfter (live : FiniteMap nat_cmp Live) (s o : ℕ) (t u : Live) : Type 0 where
@@ -111,14 +105,14 @@ pub data LiveAfter (live : FiniteMap nat_cmp Live) (s o : ℕ) (t u : Live) : Ty
 
 put_cases : (live : FiniteMap nat_cmp Live) (s o : ℕ) (t u : Live) (b : Bool) → eq_by_cmp nat_cmp o s ≡ b
     → cond b (Some u) (get live o) ≡ Some t → LiveAfter live s o t u
-put_cases live s o t u true e h = New (number-exact o s e) (sym (same_some u t h))
+put_cases live s o t u true e h = New (tied numbers o s e) (sym (same_Some u t h))
 put_cases live s o t u false e h = Old e h
 
 pub put_live : (live : FiniteMap nat_cmp Live) (s o : ℕ) (t u : Live) → get (insert live s u) o ≡ Some t → LiveAfter live s o t u
 put_live live s o t u h = put_cases live s o t u _ refl (sym (get-insert nat_cmp_total live s u o) ∙ h)
 
 other_number : (o s : ℕ) → eq_by_cmp nat_cmp o s ≡ false → (o == s) ≡ false
-other_number o s differs = by_bool (o == s) (λ same. not_itself o s differs (eqb-true o s same))
+other_number o s differs = false_from_ne_true (o == s) (λ same. untied numbers o s differs (eqb-true o s same))
 
 -- ---- what becomes of owners
 owns_left : (live : FiniteMap nat_cmp Live) (s o : ℕ) (id : RowId) → eq_by_cmp nat_cmp o s ≡ false → Owns live o id
@@ -151,10 +145,10 @@ without_own changes s o row id (Some change) is h = without_cases changes s o ro
         → (get changes id ≡ Some (o, row)) × (eq_by_cmp nat_cmp o s ≡ false)
     without_cases changes s o row id change true is e h = absurd cc
     without_cases changes s o row id change false is e h =
-        let same = same_some change (o, row) h in (
+        let same = same_Some change (o, row) h in (
           is ∙ h,
-          by_bool (eq_by_cmp nat_cmp o s)
-              (λ tie. no_both (change.0 == s) (ap (λ (c : Change). c.0 == s) same ∙ ap (λ n. n == s) (number-exact o s tie) ∙ eq-eqb s s refl) e),
+          false_from_ne_true (eq_by_cmp nat_cmp o s)
+              (λ tie. no_both (change.0 == s) (ap (λ (c : Change). c.0 == s) same ∙ ap (λ n. n == s) (tied numbers o s tie) ∙ eq-eqb s s refl) e),
         )
 
 without_other : (changes : Changes) (s o : ℕ) (row : Option (List ℕ)) (id : RowId) → eq_by_cmp nat_cmp o s ≡ false
@@ -226,8 +220,8 @@ module _ (rows : Rows) (live : FiniteMap nat_cmp Live) (table after : RowTable) 
       same_owner : (o : ℕ) (id : RowId) → Owns live o id → (b : Bool) → eq_by_cmp nat_cmp o s ≡ b → Owns (insert live s u) o id
       same_owner o id owns false other = owns_other live s o u id other owns
       same_owner o id owns true tie =
-          let is : o ≡ s = number-exact o s tie in
-          let own : owns.trx ≡ t = same_some owns.trx t (sym owns.is_live ∙ ap (get live) is ∙ there) in
+          let is : o ≡ s = tied numbers o s tie in
+          let own : owns.trx ≡ t = same_Some owns.trx t (sym owns.is_live ∙ ap (get live) is ∙ there) in
           subst (λ k. Owns (insert live s u) k id) (sym is) (record {
             trx = u;
             is_live = get_new live s u;
@@ -254,7 +248,7 @@ module _ (rows : Rows) (live : FiniteMap nat_cmp Live) (table after : RowTable) 
       begun_owner : (o : ℕ) (id : RowId) → Owns live o id → (b : Bool) → eq_by_cmp nat_cmp o s ≡ b → Owns (insert live s u) o id
       begun_owner o id owns false other = owns_other live s o u id other owns
       begun_owner o id owns true tie =
-          let there = sym owns.is_live ∙ ap (get live) (number-exact o s tie) ∙ free in cc
+          let there = sym owns.is_live ∙ ap (get live) (tied numbers o s tie) ∙ free in cc
 
   -- the rows that live transactions change are the same in the new committed rows
   abbrev pub AreLeft : Rows → Type 0
@@ -298,6 +292,6 @@ module _ (rows : Rows) (live : FiniteMap nat_cmp Live) (table after : RowTable) 
     where
       others_row : (o : ℕ) (id : RowId) (row : Option (List ℕ)) → eq_by_cmp nat_cmp o s ≡ false → get table.changes id ≡ Some (o, row)
           → list_any (names_row id) t.ops ≡ false
-      others_row o id row other is = by_bool (list_any (names_row id) t.ops) (λ names.
-          not_itself o s other (ap (λ (c : Change). c.0)
-          (same_some (o, row) (s, get (ops_on t.ops rows) id) (sym is ∙ tabled.owned s t id there locks names))))
+      others_row o id row other is = false_from_ne_true (list_any (names_row id) t.ops) (λ names.
+          untied numbers o s other (ap (λ (c : Change). c.0)
+          (same_Some (o, row) (s, get (ops_on t.ops rows) id) (sym is ∙ tabled.owned s t id there locks names))))

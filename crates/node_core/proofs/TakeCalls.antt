@@ -2,6 +2,7 @@
 use Rattle.std.proofs.Common.{◌≡◌, ℕ, ◌+◌, Bool, true, false, cond, List, [], ◌∷◌, ◌++◌, None, Some, refl, ap, sym, subst, ◌∙◌}
 use Rattle.std.specs.Prelude.{◌==◌, not, slice_get}
 use Rattle.std.specs.List.{find}
+use Rattle.std.proofs.lemmas.Bool.{false_from_ne_true}
 use Rattle.order_event.specs.declared.event.Event.{Event}
 use Rattle.order_event.specs.declared.event.Event.TheVariants as event
 use Rattle.order_event.specs.declared.step.Answer.{Answer}
@@ -9,16 +10,15 @@ use Rattle.order_event.specs.declared.step.Answer.TheVariants as answer
 use Rattle.node_meaning.specs.Node.{ModelNode, is_connected}
 use Rattle.node_meaning.specs.Steps.{take_step, take_event, took, unqueued, is_write, is_report, is_this_write, without_first}
 use Rattle.node_meaning.specs.Facts.{Facts}
-use Rattle.node_meaning.proofs.TakeFacts.{take_keeps}
 use Rattle.node_parts.specs.Queue.{Queued, taken as without_oldest}
 use Rattle.node_core.specs.declared.node.Node.{Node}
 use Rattle.node_core.specs.declared.answers.Taken.{Taken}
 use Rattle.node_core.specs.declared.answers.Taken.TheVariants as taken
 use Rattle.node_core.specs.Answers.{taken_answer}
+use Rattle.node_core.proofs.KeptFacts.{facts_taken}
 use Rattle.node_core.specs.Stands.{Stands, DoneOver, plain_of}
 use Rattle.node_core.specs.Taking.{with_event, took_with, taken_own}
 use Rattle.std.proofs.lemmas.Bool.{eqb-true, eq-eqb}
-use Rattle.node_meaning.proofs.EntryLaws.{not_true}
 use Rattle.node_core.proofs.Standing.{taken_one}
 
 module _ (order : List Event) (old : Node) (stands : Stands order old) where
@@ -55,7 +55,7 @@ module _ (order : List Event) (old : Node) (stands : Stands order old) where
               units = stands.tables.units;
               room = stands.tables.room;
             };
-            facts = subst (Facts order) (ap (λ (p : Answer × ModelNode). p.1) (sym same)) (take_keeps order (plain_of old) stands.facts);
+            facts = facts_taken order old (with_event old e queue) stands (answer.Took (old.at.taken + 1)) same;
           };
         }
 
@@ -114,7 +114,7 @@ module _ (order : List Event) (old : Node) (stands : Stands order old) where
 
 -- events of others leave the queue as it is
 other_number : (a b : ℕ) → (a ≡ b → ⊥) → a == b ≡ false
-other_number a b differs = not_true (a == b) (λ same. differs (eqb-true a b same))
+other_number a b differs = false_from_ne_true (a == b) (λ same. differs (eqb-true a b same))
 
 pub others_write : (n : ModelNode) (e : Event) (sender : ℕ) (body : List ℕ) → e ≡ event.Write sender body → (sender ≡ n.at.member → ⊥)
     → unqueued n e ≡ Some n

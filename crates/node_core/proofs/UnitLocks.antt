@@ -5,6 +5,7 @@ use Rattle.std.specs.List.{list_any, AllByRecursion}
 use Rattle.std.specs.Cmp.{eq_by_cmp_equiv}
 use Rattle.std.specs.Option.{unwrap_or}
 use Rattle.std.proofs.lemmas.List.Sums.{fold_more}
+use Rattle.std.proofs.lemmas.Bool.{or_parts}
 use Rattle.finite_map.specs.FiniteMap.{empty, get, insert, remove, keys, get-insert, get-remove, len-entries, same_map}
 use Rattle.key_sets.specs.declared.kind.Kind.{Kind}
 use Rattle.key_sets.specs.declared.parts.Parts.{Parts}
@@ -77,13 +78,9 @@ one_more_lock locks now after number es i d r clear below same is given =
     ∙ sym (fold_more (λ (all : Locks) (e : Parts × Kind). with_lock all (UnitHolder number) e.0 e.1) locks es i d below)
 
 -- ---- all of them
-none_or : (a b : Bool) → a || b ≡ false → (a ≡ false) × (b ≡ false)
-none_or true b h = cc
-none_or false b h = (refl, h)
-
 all_none : (test : Parts × Kind → Bool) (es : List (Parts × Kind)) → list_any test es ≡ false → AllByRecursion (λ e. test e ≡ false) es
 all_none test [] none = tt
-all_none test (e ∷ es) none = let both = none_or (test e) (list_any test es) none in (both.0, all_none test es both.1)
+all_none test (e ∷ es) none = let both = or_parts (test e) (list_any test es) none in (both.0, all_none test es both.1)
 
 -- no other's keys touch the set: so they touch none of its keys
 pub all_clear : (locks : Locks) (number : ℕ) (all : Keys) → IsClear locks number all → AllClear locks number all.entries

@@ -2,6 +2,7 @@
 use Rattle.std.proofs.Common.{◌≡◌, ℕ, suc, Bool, true, false, cond, List, [], ◌∷◌, length, map, Option, None, Some, refl, ap, sym, subst, ◌∙◌, arith, true≢false}
 use Rattle.std.specs.Prelude.{◌||◌}
 use Rattle.std.specs.List.{list_any, AllByRecursion}
+use Rattle.std.proofs.lemmas.Bool.{false_from_ne_true}
 use Rattle.finite_map.specs.FiniteMap.{empty, get}
 use Rattle.key_sets.specs.Keys.{Keys, touches}
 use Rattle.key_sets.specs.Meeting.{covers}
@@ -29,7 +30,6 @@ use Rattle.node_meaning.proofs.CoveredLaws.{all_from_rules}
 use Rattle.node_meaning.proofs.UnitLaws.{ops_covered, places_covered, task-unit}
 use Rattle.node_core.specs.Advancing.{AreFree, results_of}
 use Rattle.node_core.specs.Tabled.{Tabled, changes_row}
-use Rattle.node_core.proofs.CertifyCalls.{by_bool}
 
 -- changes that keys cover name only rows that the keys cover
 covered_row : (keys : Keys) (ops : List Op) (id : RowId) → AllCovered keys ops → list_any (names_row id) ops ≡ true
@@ -61,7 +61,7 @@ module _ (order : List Event) (n : ModelNode) (facts : Facts order n) (number : 
   pub not_changed : (s : ℕ) (t : Live) (id : RowId) → get n.live s ≡ Some t → has_locks t.status ≡ true → changes_row id t.ops ≡ true
       → covers u.keys (row_parts id) ≡ true → ⊥
   not_changed s t id is locks changes own =
-      let all = all_from_rules 0 t.keys t.ops (facts.own s t is).fit.covered in
+      let all = all_from_rules 0 t.keys t.ops (facts.sendable s t is).fit.covered in
       true≢false (sym (touches_from_conflicts t.keys u.keys
       (conflicts_from_covers t.keys u.keys (row_parts id) id.row refl (covered_row t.keys t.ops id all changes) own)) ∙ keys_apart s t is locks)
 
@@ -69,7 +69,7 @@ module _ (order : List Event) (n : ModelNode) (facts : Facts order n) (number : 
   pub rows_left : (rows : Rows) (s : ℕ) (t : Live) (id : RowId) → get n.live s ≡ Some t → has_locks t.status ≡ true
       → changes_row id t.ops ≡ true → get (ops_on (ops_at order number) rows) id ≡ get rows id
   rows_left rows s t id is locks changes =
-      get-unnamed (ops_at order number) rows id (by_bool (list_any (names_row id) (ops_at order number))
+      get-unnamed (ops_at order number) rows id (false_from_ne_true (list_any (names_row id) (ops_at order number))
       (λ names. not_changed s t id is locks changes (covered_row u.keys (ops_at order number) id unit_covered names)))
 
   free_row : (rows : Rows) (table : RowTable) → Tabled rows n.live table → (id : RowId) → covers u.keys (row_parts id) ≡ true

@@ -1,7 +1,9 @@
 -- why a call is not done, and why a statement is refused, whatever its transaction's size
-use Rattle.std.specs.Prelude.{ℕ, ◌||◌, nat_lt, List, [], ◌∷◌, Option, Some, None, option_map, if◌then◌else◌}
+use Rattle.std.specs.Prelude.{ℕ, ◌==◌, ◌&&◌, ◌||◌, nat_lt, Bool, false, not, List, [], ◌∷◌, length, Option, Some, None, is_some, is_none, option_map, if◌then◌else◌}
 use Rattle.row_model.specs.declared.ops.Op.{Op}
 use Rattle.row_model.specs.declared.ops.Op.TheVariants as op
+use Rattle.row_model.specs.declared.calls.Call.{Call}
+use Rattle.row_model.specs.declared.calls.Call.TheVariants as call
 use Rattle.row_model.specs.declared.calls.Reply.{Reply}
 use Rattle.row_model.specs.declared.calls.Reply.TheVariants as reply
 use Rattle.row_locks.specs.declared.holder.Holder.{Holder}
@@ -17,6 +19,23 @@ closed_by at live =
     else if is_left at.phase then Some reply.Disconnected
     else if is_joining at.phase || nat_lt at.committed at.view then Some reply.NotSynced
     else None
+
+-- a commit is sent, unless there is no transaction, or one that changed nothing and never sent a fragment
+abbrev pub sends_commit : Option Live → Bool
+sends_commit None = false
+sends_commit (Some t) = not (length t.ops == 0 && t.sent == 0)
+
+-- the calls of the table that may take memory: a begin where no transaction is live, a statement of a live one, and a commit that is sent
+abbrev pub takes_memory : Option Live → Call → Bool
+takes_memory live (call.Begin unit) = is_none live
+takes_memory live (call.Insert id row) = is_some live
+takes_memory live (call.Update id change) = is_some live
+takes_memory live (call.Delete id) = is_some live
+takes_memory live (call.Share id) = is_some live
+takes_memory live (call.Read id) = false
+takes_memory live call.Commit = sends_commit live
+takes_memory live call.Rollback = false
+takes_memory live call.Poll = false
 
 -- why the row as it is refuses a statement
 abbrev pub of_row : Option (List ℕ) → Option Op → Option Reply

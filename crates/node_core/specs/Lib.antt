@@ -2,6 +2,7 @@ pub mod Advancing
 pub mod Answers
 pub mod Certifying
 pub mod Client
+pub mod Memory
 pub mod Stands
 pub mod Starting
 pub mod Statement

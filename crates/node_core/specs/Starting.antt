@@ -17,12 +17,13 @@ use Rattle.row_locks.specs.Holders.{same_holder}
 use Rattle.row_locks.specs.Locks.{Locks, keys_at, with_lock, touching_sessions}
 use Rattle.node_meaning.specs.Node.{ModelNode, ApplyUnit, locks_of}
 use Rattle.node_meaning.specs.Facts.{commit_at}
-use Rattle.node_meaning.specs.Steps.{is_local, started}
+use Rattle.node_meaning.specs.Steps.{is_local, started, start_step}
 use Rattle.node_core.specs.declared.node.Node.{Node}
 use Rattle.node_core.specs.declared.answers.Started.{Started}
 use Rattle.node_core.specs.Tabled.{Tabled}
 use Rattle.node_core.specs.Answers.{started_answer, GivesTask}
 use Rattle.node_core.specs.Stands.{Stands, DoneOver, plain_of}
+use Rattle.node_core.specs.Memory.{is_start}
 
 -- a commit that passed and is not committed, has no unit and is no live transaction's, and is touched by none before it
 pub record CanStart (order : List Event) (node : Node) (number : ℕ) (keys : Keys) : Type 0 where
@@ -40,6 +41,17 @@ pub record CanStart (order : List Event) (node : Node) (number : ℕ) (keys : Ke
 -- the unit starts, and aborts who is in its way
 abbrev pub unit_started : ℕ → Keys → ModelNode → answer.the_data × ModelNode
 unit_started number keys n = started n number keys (touching_sessions (locks_of n.live n.units) keys)
+
+-- the unit of these keys is what the model starts
+pub record IsStartable (order : List Event) (node : Node) (number : ℕ) (keys : Keys) : Type 0 where
+  pub can : CanStart order node number keys
+  pub is : start_step order (plain_of node) number ≡ unit_started number keys (plain_of node)
+
+-- the model starts no unit, and answers so
+pub record IsRefused (order : List Event) (node : Node) (number : ℕ) (refused : Started) : Type 0 where
+  pub done : DoneOver order (λ n. start_step order n number) node node (started_answer number refused)
+  pub idle : is_start (started_answer number refused) ≡ false
+  pub task : GivesTask order number refused
 
 -- the unit is started over one order, and its task is given
 pub record IsStartedOver (order : List Event) (number : ℕ) (keys : Keys) (old new : Node) (given : Started) : Type 0 where

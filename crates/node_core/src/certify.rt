@@ -18,14 +18,15 @@ use wsrep_base::{Judged, NoMemory, Verdict};
 impl Node {
     ghost use Rattle.node_meaning.specs.Steps.{certify_step, told_verdict, session_of as found};
     ghost use Rattle.node_core.specs.Answers.{certified_answer};
-    ghost use Rattle.node_core.specs.Stands.{IsStanding, Stands, Does, Unchanged, Moves};
+    ghost use Rattle.node_core.specs.Memory.{CertifyWants};
+    ghost use Rattle.node_core.specs.Stands.{IsStanding, Stands, Does, Unchanged, Moves, plain_of};
 
     /// Certifies the next event that was taken, and tells the transaction that sent it.
     pub fn certify(&mut self) -> Result<Certified, NoMemory>
         requires stands { IsStanding self.old }
         ensures ok { IfOk result (λ r. Does (λ order n. certify_step order n) self.old self.new (certified_answer r)) }
         ensures err { OnErr result (Unchanged self.old self.new) }
-        ensures some { OnErr result (self.old.at.certified ≡ self.old.at.taken → ⊥) }
+        ensures some { OnErr result (CertifyWants (plain_of self.old)) }
     {
         if self.at.certified == self.at.taken {
             return Ok(Certified::Nothing);

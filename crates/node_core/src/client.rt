@@ -1,4 +1,4 @@
-ghost use Rattle.std.specs.Prelude.{◌≡◌, ◌≤◌, ◌<◌, ◌^◌, List, None, IfOk, OnErr, IsTrue, false};
+ghost use Rattle.std.specs.Prelude.{◌≡◌, ◌≤◌, ◌<◌, ◌^◌, List, is_none, IfOk, OnErr, IsTrue, false};
 ghost use Rattle.finite_map.specs.FiniteMap.{get};
 
 use crate::node::Node;
@@ -19,11 +19,13 @@ impl Node {
     ghost use Rattle.order_event.specs.declared.event.Event.{Event};
     ghost use Rattle.node_meaning.specs.Node.{rows_at, seen_rows, end_live};
     ghost use Rattle.node_meaning.specs.Client.{client, served, begin_call, commit_call, rollback_call, poll_reply, row_reply, is_pending};
-    ghost use Rattle.node_core.specs.Client.{closed_by};
-    ghost use Rattle.node_core.specs.Stands.{IsStanding, Stands, Does, Unchanged, Moves};
+    ghost use Rattle.node_core.specs.Client.{closed_by, sends_commit, takes_memory};
+    ghost use Rattle.node_core.specs.Memory.{CallWants};
+    ghost use Rattle.node_core.specs.Stands.{IsStanding, Stands, Does, Unchanged, Moves, plain_of};
 
     /// What a session, 1 to 32, is answered when it makes a call. An answer that waits, and one that
-    /// comes before the table of calls, takes no memory.
+    /// comes before the table of calls, takes no memory; nor do `read`, `poll`, `rollback`, a begin
+    /// within a transaction, a statement or a commit without one, and a commit of nothing.
     pub fn client(&mut self, session: u8, call: &Call) -> Result<Reply, NoMemory>
         requires stands { IsStanding self.old }
         requires session { (1 ≤ session) × (session ≤ 32) }
@@ -32,7 +34,7 @@ impl Node {
         requires begin { self.old.at.begin < 2 ^ 63 }
         ensures ok { IfOk result (Does (λ order n. client order n session call.now) self.old self.new) }
         ensures err { OnErr result (Unchanged self.old self.new) }
-        ensures open { OnErr result ((get self.old.waiting session ≡ None) × (closed_by self.old.at (get self.old.live session) ≡ None)) }
+        ensures open { OnErr result (CallWants (plain_of self.old) session call.now) }
     {
         if let Some(reply) = self.waiting.take(session) {
             return Ok(reply);
@@ -78,6 +80,7 @@ impl Node {
         requires begin { self.old.at.begin < 2 ^ 63 }
         ensures ok { IfOk result (Does (λ order n. served order n session (get n.live session) call.now) self.old self.new) }
         ensures err { OnErr result (Unchanged self.old self.new) }
+        ensures takes { OnErr result (IsTrue (takes_memory (get self.old.live session) call.now)) }
     {
         match call {
             Call::Begin(_) => self.begin(session),
@@ -104,6 +107,7 @@ impl Node {
         requires begin { self.old.at.begin < 2 ^ 63 }
         ensures ok { IfOk result (Does (λ order n. begin_call n session (get n.live session)) self.old self.new) }
         ensures err { OnErr result (Unchanged self.old self.new) }
+        ensures none { OnErr result (IsTrue (is_none (get self.old.live session))) }
     {
         if self.live.contains(session) {
             return Ok(Reply::InTrx);
@@ -144,6 +148,7 @@ impl Node {
         requires serial { self.old.at.serial < 2 ^ 63 }
         ensures ok { IfOk result (Does (λ order n. commit_call n session (get n.live session)) self.old self.new) }
         ensures err { OnErr result (Unchanged self.old self.new) }
+        ensures sends { OnErr result (IsTrue (sends_commit (get self.old.live session))) }
     {
         progress_in_range(&self.at);
         let Some(trx) = self.live.get(session) else {

@@ -47,10 +47,10 @@ impl Node {
 
     /// A node at its start, connected, with this state id and member number. The size of the ring of
     /// events, in bytes, is not used yet.
-    pub fn new(alloc: Global, id: &StateId, member: u32, _gcache: u64) -> Result<Node, NoMemory>
-        requires id { id.now ≢ nil_id }
+    pub fn new(alloc: Global, id: StateId, member: u32, _gcache: u64) -> Result<Node, NoMemory>
+        requires id { id ≢ nil_id }
         requires ring { _gcache ≤ 16_777_216 }
-        ensures start { IfOk result (λ node. plain_of node ≡ start_node id.now member) }
+        ensures start { IfOk result (λ node. plain_of node ≡ start_node id member) }
         ensures stands { IfOk result (λ node. (order : List Event) → Stands order node) }
     {
         Ok(Node {
@@ -65,7 +65,7 @@ impl Node {
                 serial: 1,
                 begin: 1,
             },
-            id: *id,
+            id,
             live: Slots::new(alloc)?,
             waiting: Slots::new(alloc)?,
             queue: Queue::new(alloc),

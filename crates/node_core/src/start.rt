@@ -1,4 +1,4 @@
-ghost use Rattle.std.specs.Prelude.{◌≡◌, ◌+◌, ◌<◌, ◌≤◌, ◌^◌, List, [], length, fold, IfOk, OnOk, OnErr};
+ghost use Rattle.std.specs.Prelude.{◌≡◌, ◌+◌, ◌<◌, ◌≤◌, ◌^◌, List, [], length, fold, IfOk, IfErr, OnOk, OnErr, IsTrue};
 ghost use Rattle.std.specs.Option.{unwrap_or};
 ghost use Rattle.finite_map.specs.FiniteMap.{get};
 ghost use Rattle.client_trx.specs.Live as live;
@@ -25,8 +25,9 @@ impl Node {
     ghost use Rattle.node_meaning.specs.Steps.{start_step, kill_session};
     ghost use Rattle.node_meaning.specs.Units.{images_of, ops_at, named_rows};
     ghost use Rattle.node_core.specs.Answers.{started_answer, GivesTask};
-    ghost use Rattle.node_core.specs.Stands.{IsStanding, Stands, Does, DoneOver, Unchanged};
-    ghost use Rattle.node_core.specs.Starting.{CanStart, IsStartedOver, unit_started, Aborts};
+    ghost use Rattle.node_core.specs.Stands.{IsStanding, Stands, Does, DoneOver, Unchanged, plain_of};
+    ghost use Rattle.node_core.specs.Memory.{starts, StartWants};
+    ghost use Rattle.node_core.specs.Starting.{CanStart, IsStartable, IsRefused, IsStartedOver, unit_started, Aborts};
 
     /// Starts the unit of the passed commit with this number: the transactions whose locks touch
     /// it are aborted. All memory is taken first; a unit that cannot start yet takes none.
@@ -35,24 +36,41 @@ impl Node {
         ensures ok { IfOk result (λ r. Does (λ order n. start_step order n number) self.old self.new (started_answer number r)) }
         ensures task { IfOk result (λ r. (order : List Event) → Stands order self.old → GivesTask order number r) }
         ensures err { OnErr result (Unchanged self.old self.new) }
-        ensures clear { OnErr result ((order : List Event) → Stands order self.old → (keys : Keys) × CanStart order self.old number keys) }
+        ensures clear { OnErr result ((order : List Event) → Stands order self.old → StartWants order (plain_of self.old) number) }
+    {
+        let keys = match self.startable(number) {
+            Ok(keys) => keys.copy()?,
+            Err(refused) => return Ok(refused),
+        };
+        self.start_unit(number, keys)
+    }
+
+    /// Whether the unit of the passed commit with this number can start now. It takes no memory.
+    pub fn can_start(&self, number: u64) -> bool
+        ensures { (order : List Event) → Stands order self.now → result ≡ starts order (plain_of self.now) number }
+    {
+        self.startable(number).is_ok()
+    }
+
+    // The keys of the unit that can start, or why it cannot.
+    fn startable(&self, number: u64) -> Result<&KeySet, Started>
+        ensures ok { IfOk result (λ keys. (order : List Event) → Stands order self.now → IsStartable order self.now number keys.now) }
+        ensures err { IfErr result (λ refused. (order : List Event) → Stands order self.now → IsRefused order self.now number refused) }
     {
         if number <= self.at.committed || self.units.contains(number) {
-            return Ok(Started::NoUnit);
+            return Err(Started::NoUnit);
         }
         let Some(commit) = self.fold.commit_at(number) else {
-            return Ok(Started::NoUnit);
+            return Err(Started::NoUnit);
         };
         if is_local(&self.live, number) {
-            return Ok(Started::Local);
+            return Err(Started::Local);
         }
         let committed = self.at.committed;
         if let Some(earlier) = self.fold.touching_between(committed, number, &commit.keys) {
-            return Ok(Started::NotYet(earlier));
+            return Err(Started::NotYet(earlier));
         }
-        let keys = commit.keys.copy()?;
-        let started = self.start_unit(number, keys)?;
-        Ok(started)
+        Ok(&commit.keys)
     }
 
     // Nothing stands in the way of the unit.

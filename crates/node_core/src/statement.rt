@@ -1,4 +1,4 @@
-ghost use Rattle.std.specs.Prelude.{◌≡◌, ◌≤◌, ◌+◌, List, Option, Some, None, IfOk, IfSome, OnOk, OnErr, IsTrue, false, option_map};
+ghost use Rattle.std.specs.Prelude.{◌≡◌, ◌≤◌, ◌+◌, List, Option, Some, None, is_some, IfOk, IfSome, OnOk, OnErr, IsTrue, false, option_map};
 ghost use Rattle.finite_map.specs.FiniteMap.{get};
 ghost use Rattle.key_sets.specs.Keys.{one_key};
 ghost use Rattle.write_set.specs.Rules.{row_parts};
@@ -43,6 +43,7 @@ impl Node {
         requires change { IfSome change (IsKeyOf (row_parts id.now) kind) }
         ensures ok { IfOk result (Does (λ order n. statement order n session (get n.live session) (record { id = id.now; kind = kind; change = change })) self.old self.new) }
         ensures err { OnErr result (Unchanged self.old self.new) }
+        ensures some { OnErr result (IsTrue (is_some (get self.old.live session))) }
     {
         let met = match self.meet(session, id, kind)? {
             Some(met) => met,
@@ -56,7 +57,8 @@ impl Node {
 
     // What a statement of the session's transaction meets; None where it has none.
     fn meet(&self, session: u8, id: &RowId, kind: Kind) -> Result<Option<Met>, NoMemory>
-        ensures { IfOk result (λ met. met ≡ option_map (met_at self.now session id.now kind) (get self.now.live session)) }
+        ensures met { IfOk result (λ met. met ≡ option_map (met_at self.now session id.now kind) (get self.now.live session)) }
+        ensures some { OnErr result (IsTrue (is_some (get self.now.live session))) }
     {
         let Some(trx) = self.live.get(session) else {
             return Ok(None);
@@ -64,7 +66,7 @@ impl Node {
         let parts = parts_of(id);
         let key = key_of(self.alloc, &parts, kind)?;
         Ok(Some(Met {
-            held: self.fold.held_by(trx.id(), &key),
+            held: self.fold.held_by(&key, trx.id()),
             blocker: self.locks.check(Holder::Session(session), &parts, kind),
             row: self.rows.seen_by(session, id),
         }))

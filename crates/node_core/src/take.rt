@@ -1,4 +1,4 @@
-ghost use Rattle.std.specs.Prelude.{◌≡◌, ◌<◌, ◌^◌, ◌+◌, ℕ, List, Some, slice_get, IfOk, OnErr, IsTrue};
+ghost use Rattle.std.specs.Prelude.{◌≡◌, ◌<◌, ◌^◌, ◌+◌, ℕ, List, Some, slice_get, IfOk, OnErr};
 ghost use Rattle.std.specs.List.{find};
 ghost use Rattle.node_meaning.specs.Node.{is_connected};
 
@@ -15,7 +15,8 @@ impl Node {
     ghost use Rattle.node_meaning.specs.Steps.{take_step, is_write, is_report, is_this_write};
     ghost use Rattle.node_core.specs.declared.answers.Taken.TheVariants as taken;
     ghost use Rattle.node_core.specs.Answers.{taken_answer};
-    ghost use Rattle.node_core.specs.Stands.{IsStanding, Stands, DoneOver, Unchanged};
+    ghost use Rattle.node_core.specs.Memory.{TakeWants};
+    ghost use Rattle.node_core.specs.Stands.{IsStanding, Stands, DoneOver, Unchanged, plain_of};
     ghost use Rattle.node_parts.specs.Queue.{taken as without_oldest};
     ghost use Rattle.node_core.specs.Taking.{taken_own, took_with};
 
@@ -28,9 +29,9 @@ impl Node {
             → Stands order self.old → DoneOver order (take_step order) self.old self.new (taken_answer r)) }
         ensures split { IfOk result (λ r. (n : ℕ) → r ≡ taken.Split n → n ≡ self.old.at.taken + 1) }
         ensures err { OnErr result (Unchanged self.old self.new) }
-        ensures there { OnErr result (IsTrue (is_connected self.old.at.phase)) }
+        ensures there { OnErr result (TakeWants (plain_of self.old)) }
     {
-        if !is_connected(self.at.phase) {
+        if !self.is_connected() {
             return Ok(Taken::Away);
         }
         match event {
@@ -50,6 +51,13 @@ impl Node {
             }
             Event::View { .. } => self.take_other(event),
         }
+    }
+
+    /// Whether the node is connected. One that is not takes nothing.
+    pub fn is_connected(&self) -> bool
+        ensures { result ≡ is_connected self.now.at.phase }
+    {
+        is_connected(self.at.phase)
     }
 
     // Takes a write set of the node's own member, which is the oldest that it had ordered.

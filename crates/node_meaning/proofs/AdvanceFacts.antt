@@ -1,16 +1,12 @@
 -- Committing the next number keeps the facts of a node; and the rows after it.
-use Rattle.std.proofs.Common.{◌≡◌, ℕ, suc, ◌+◌, ◌-◌, ◌≤◌, ◌<◌, Bool, true, false, cond, List, [], Option, None, Some, refl, ap, sym, subst, ◌∙◌, arith, eqb→eq, eq-eqb, true≢false, length}
+use Rattle.std.proofs.Common.{◌≡◌, ℕ, suc, ◌+◌, ◌≤◌, ◌<◌, Bool, true, false, List, [], Option, None, Some, refl, ap, sym, subst, ◌∙◌, arith, eqb→eq, eq-eqb, true≢false, length}
 use Rattle.std.specs.Prelude.{◌==◌, ◌||◌, not, T, is_some, slice_get, unwrap_or}
-use Rattle.std.specs.Ordering.{nat_cmp}
-use Rattle.finite_map.specs.FiniteMap.{FiniteMap, get, insert, remove}
-use Rattle.row_model.specs.declared.calls.Reply.{Reply}
-use Rattle.row_model.specs.declared.calls.Reply.TheVariants as reply
+use Rattle.std.proofs.lemmas.Option.{same_Some}
+use Rattle.finite_map.specs.FiniteMap.{get}
 use Rattle.row_model.specs.declared.ops.Op.{Op}
 use Rattle.row_model.specs.Rows.{ops_on}
 use Rattle.order_event.specs.declared.event.Event.{Event}
 use Rattle.order_event.specs.declared.event.Event.TheVariants.{Write, View, Report}
-use Rattle.order_event.specs.declared.step.Answer.{Answer}
-use Rattle.order_event.specs.declared.step.Answer.TheVariants as answer
 use Rattle.write_set.specs.declared.write_set.WriteSet.{WriteSet}
 use Rattle.write_set.specs.Reading.{decoded}
 use Rattle.cert_meaning.specs.declared.items.CommitItem.{CommitItem}
@@ -20,13 +16,11 @@ use Rattle.cert_meaning.proofs.FoldLaws.{some_there, rows-next}
 use Rattle.client_trx.specs.Live.{Live}
 use Rattle.client_trx.specs.declared.status.Status.{Status}
 use Rattle.client_trx.specs.declared.status.Status.TheVariants as status
-use Rattle.node_meaning.specs.Node.{ModelNode, ApplyUnit, rows_at, passed_at, locks_of}
-use Rattle.node_meaning.specs.Steps.{is_certified_at, is_replaying_at, is_local, is_finished, committer_of, told_committed, committed_next, is_ready, advance_step}
-use Rattle.node_meaning.specs.Facts.{Facts, HasPassed, PassedWhere, HasUnit, AllSent, AreApart, commit_at, pending}
-use Rattle.node_meaning.proofs.EntryLaws.{entry_found, entry_missed, no_entry, entries_fail, entry_any, some_entry, left, not_itself, some_is, some_not_none, not_true, less_from}
+use Rattle.node_meaning.specs.Node.{ModelNode, ApplyUnit, rows_at, passed_at}
+use Rattle.node_meaning.specs.Steps.{is_certified_at, is_replaying_at, is_local, is_finished, committer_of, is_ready}
+use Rattle.node_meaning.specs.Facts.{Facts, sets_of, HasPassed, StandsBy, HasUnit, commit_at}
+use Rattle.node_meaning.proofs.EntryLaws.{entry_found, entry_missed, entry_any, some_entry, some_not_none}
 use Rattle.node_meaning.proofs.PassedLaws.{commit_at-is, passed-is}
-use Rattle.node_meaning.proofs.LockLaws.{apart-ended, apart-unit_done}
-use Rattle.node_meaning.proofs.KeptFacts.{sent_ended}
 
 -- ---- who commits at a number
 abbrev pub commits_at : ℕ → ℕ × Live → Bool
@@ -40,22 +34,23 @@ or_none true h = h
 or_none false h = h
 
 -- a transaction that commits at a number has passed there
-passed_by : (order : List Event) (p c number : ℕ) (t : Live) (status : Status) → PassedWhere order p c t status
+pub passed_by : (order : List Event) (p c number : ℕ) (mine : List WriteSet) (t : Live) (status : Status) → StandsBy order p c mine t status
     → is_certified_at number status || is_replaying_at number status ≡ true → HasPassed order p c t number
-passed_by order p c number t status.Running h now = cc
-passed_by order p c number t status.FragmentSent h now = cc
-passed_by order p c number t status.CommitSent h now = cc
-passed_by order p c number t (status.Certified own) h now =
-    subst (HasPassed order p c t) (sym (same_number number own (or_none _ now))) h
-passed_by order p c number t status.KilledSent h now = cc
-passed_by order p c number t (status.Replaying own) h now = subst (HasPassed order p c t) (sym (same_number number own now)) h
+passed_by order p c number mine t status.Running h now = cc
+passed_by order p c number mine t status.FragmentSent h now = cc
+passed_by order p c number mine t status.CommitSent h now = cc
+passed_by order p c number mine t (status.Certified own) h now =
+    subst (HasPassed order p c t) (sym (same_number number own (or_none _ now))) h.1
+passed_by order p c number mine t status.KilledSent h now = cc
+passed_by order p c number mine t (status.Replaying own) h now =
+    subst (HasPassed order p c t) (sym (same_number number own now)) h.1
 
 abbrev trx_or : CommitItem → Option CommitItem → ℕ
 trx_or d None = d.trx.begin
 trx_or d (Some c) = c.trx.begin
 
 -- two transactions that commit at one number are one
-same_begin : (order : List Event) (p c number : ℕ) (t u : Live) → HasPassed order p c t number → HasPassed order p c u number
+pub same_begin : (order : List Event) (p c number : ℕ) (t u : Live) → HasPassed order p c t number → HasPassed order p c u number
     → t.trx.begin ≡ u.trx.begin
 same_begin order p c number t u one other =
     ap (trx_or (record { number = number; trx = t.trx; keys = t.keys })) (sym one.is_commit ∙ other.is_commit)
@@ -82,20 +77,21 @@ still_passed order p c t own unequal h = record {
   above = above_next p own h.above (differs (p + 1) own unequal);
   within = h.within;
   is_commit = h.is_commit;
-  rows = h.rows;
+  changes = h.changes;
 }
 
-still_where : (order : List Event) (p c : ℕ) (t : Live) (status : Status)
+-- a transaction that does not commit there stands as it did
+pub stands_still : (order : List Event) (p c : ℕ) (mine : List WriteSet) (t : Live) (status : Status)
     → is_certified_at (p + 1) status || is_replaying_at (p + 1) status ≡ false
-    → PassedWhere order p c t status → PassedWhere order (p + 1) c t status
-still_where order p c t status.Running none h = tt
-still_where order p c t status.FragmentSent none h = h
-still_where order p c t status.CommitSent none h = tt
-still_where order p c t (status.Certified own) none h = still_passed order p c t own (or_false _ _ none) h
-still_where order p c t status.KilledSent none h = tt
-still_where order p c t (status.Replaying own) none h = still_passed order p c t own none h
+    → StandsBy order p c mine t status → StandsBy order (p + 1) c mine t status
+stands_still order p c mine t status.Running none h = h
+stands_still order p c mine t status.FragmentSent none h = h
+stands_still order p c mine t status.CommitSent none h = h
+stands_still order p c mine t (status.Certified own) none h = (h.0, still_passed order p c t own (or_false _ _ none) h.1)
+stands_still order p c mine t status.KilledSent none h = h
+stands_still order p c mine t (status.Replaying own) none h = (h.0, still_passed order p c t own none h.1)
 
-still_unit : (order : List Event) (p c k : ℕ) (u : ApplyUnit) → (k ≡ p + 1 → ⊥) → HasUnit order p c k u → HasUnit order (p + 1) c k u
+pub still_unit : (order : List Event) (p c k : ℕ) (u : ApplyUnit) → (k ≡ p + 1 → ⊥) → HasUnit order p c k u → HasUnit order (p + 1) c k u
 still_unit order p c k u unequal h = record {
   above = above_next p k h.above unequal;
   within = h.within;
@@ -105,53 +101,17 @@ still_unit order p c k u unequal h = record {
   clear = λ earlier d above below is. h.clear earlier d (omega (arith, above)) below is;
 }
 
-abbrev pub moved : ModelNode → FiniteMap nat_cmp Live → FiniteMap nat_cmp Reply → ModelNode
-moved n live waiting = record n {
-  at = record n.at { committed = n.at.committed + 1 };
-  units = remove n.units (n.at.committed + 1);
-  live = live;
-  waiting = waiting;
-}
-
--- who is left, and does not commit now
-abbrev IsLeft : ModelNode → FiniteMap nat_cmp Live → Type 0
-IsLeft n live = (s : ℕ) (t : Live) → get live s ≡ Some t → (get n.live s ≡ Some t) × (commits_at (n.at.committed + 1) (s, t) ≡ false)
-
-moved_keeps : (order : List Event) (n : ModelNode) (live : FiniteMap nat_cmp Live) (waiting : FiniteMap nat_cmp Reply)
-    → n.at.committed < n.at.certified → IsLeft n live
-    → AllSent n.at.member n.at.begin live (pending order n) → AreApart (locks_of live n.units)
-    → Facts order n → Facts order (moved n live waiting)
-moved_keeps order n live waiting more rest sent apart facts = record {
-  in_order = record {
-    committed_fits = omega (arith, more);
-    certified_fits = facts.in_order.certified_fits;
-    taken_fits = facts.in_order.taken_fits;
-  };
-  own = λ s t there. facts.own s t (rest s t there).0;
-  begins = λ s o t u one other same. facts.begins s o t u (rest s t one).0 (rest o u other).0 same;
-  passed = λ s t there.
-      still_where order n.at.committed n.at.certified t t.status (rest s t there).1 (facts.passed s t (rest s t there).0);
-  sent = sent;
-  units = λ k u there.
-      let l = left n.units (n.at.committed + 1) k u there in
-      still_unit order n.at.committed n.at.certified k u (not_itself k (n.at.committed + 1) l.elsewhere) (facts.units k u l.there);
-  remote = λ k u there.
-      let l = left n.units (n.at.committed + 1) k u there in
-      entries_fail live (λ e. is_certified_at k e.1.status)
-      (λ s t h. no_entry n.live (λ e. is_certified_at k e.1.status) s t (facts.remote k u l.there) (rest s t h).0);
-  apart = apart-unit_done live n.units apart (n.at.committed + 1);
-}
-
 -- the one that commits is the only one
 module _ (order : List Event) (n : ModelNode) (facts : Facts order n) (number : ℕ) where
-  passed_there : (s : ℕ) (t : Live) → get n.live s ≡ Some t → commits_at number (s, t) ≡ true
+  pub passed_there : (s : ℕ) (t : Live) → get n.live s ≡ Some t → commits_at number (s, t) ≡ true
       → HasPassed order n.at.committed n.at.certified t number
-  passed_there s t there now = passed_by order n.at.committed n.at.certified number t t.status (facts.passed s t there) now
+  passed_there s t there now =
+      passed_by order n.at.committed n.at.certified number (sets_of t.trx.begin facts.sent.sets) t t.status (facts.sent.lined.each s t there).stands now
 
   pub only_one : (s o : ℕ) (t u : Live) → get n.live s ≡ Some t → get n.live o ≡ Some u
       → commits_at number (s, t) ≡ true → commits_at number (o, u) ≡ true → s ≡ o
   only_one s o t u one other now too =
-      facts.begins s o t u one other
+      facts.sent.lined.begins s o t u one other
       (same_begin order n.at.committed n.at.certified number t u (passed_there s t one now) (passed_there o u other too))
 
   pub committer_there : (s : ℕ) (t : Live) → committer_of n.live number ≡ Some (s, t)
@@ -159,46 +119,7 @@ module _ (order : List Event) (n : ModelNode) (facts : Facts order n) (number : 
   committer_there s t is =
       let found = entry_found n.live (commits_at number) (s, t) is in (found.there, found.passes)
 
-told_keeps : (order : List Event) (n : ModelNode) → n.at.committed < n.at.certified → (o : Option (ℕ × Live))
-    → committer_of n.live (n.at.committed + 1) ≡ o → Facts order n
-    → Facts order (told_committed (moved n n.live n.waiting) (n.at.committed + 1) o)
-told_keeps order n more None is facts =
-    moved_keeps order n n.live n.waiting more
-    (λ s t there. (there, entry_missed n.live (commits_at (n.at.committed + 1)) s t is there)) facts.sent facts.apart facts
-told_keeps order n more (Some e) is facts =
-    let number = n.at.committed + 1 in
-    let here = committer_there order n facts number e.0 e.1 is in
-    moved_keeps order n (remove n.live e.0) (insert n.waiting e.0 (reply.Committed number)) more
-    (λ s t there.
-    let l = left n.live e.0 s t there in (
-      l.there,
-      not_true (commits_at number (s, t)) (λ now.
-          not_itself s e.0 l.elsewhere (only_one order n facts number s e.0 t e.1 l.there here.0 now here.1)),
-    ))
-    (sent_ended n.at.member n.at.begin n.live e.0 (pending order n) facts.sent) (apart-ended n.live n.units facts.apart e.0) facts
-
-ready_keeps : (order : List Event) (n : ModelNode) (ready : Bool) → n.at.committed < n.at.certified → Facts order n
-    → Facts order (cond {A = Answer × ModelNode} ready (answer.At (n.at.committed + 1), committed_next n (n.at.committed + 1)) (answer.NotReady (n.at.committed + 1), n)).1
-ready_keeps order n true more facts = told_keeps order n more (committer_of n.live (n.at.committed + 1)) refl facts
-ready_keeps order n false more facts = facts
-
-rest_keeps : (order : List Event) (n : ModelNode) (none : Bool) → n.at.committed == n.at.certified ≡ none → Facts order n
-    → Facts order (cond {A = Answer × ModelNode} none (answer.Nothing, n)
-    (cond {A = Answer × ModelNode} (is_ready order n (n.at.committed + 1)) (answer.At (n.at.committed + 1), committed_next n (n.at.committed + 1))
-    (answer.NotReady (n.at.committed + 1), n))).1
-rest_keeps order n true is facts = facts
-rest_keeps order n false is facts =
-    ready_keeps order n (is_ready order n (n.at.committed + 1)) (less_from n.at.committed n.at.certified facts.in_order.committed_fits is) facts
-
--- committing the next number keeps the facts
-pub advance_keeps : (order : List Event) (n : ModelNode) → Facts order n → Facts order (advance_step order n).1
-unfolding advance_step
-advance_keeps order n facts = rest_keeps order n (n.at.committed == n.at.certified) refl facts
-
 -- ---- the rows after it
-one_less : (p : ℕ) → (p + 1) - 1 ≡ p
-one_less p = omega arith
-
 none_made : (s : FoldState) (w : WriteSet) (effect : Effect) → commit_made s w effect ≡ None → ops_by s w effect ≡ None
 none_made s w Same is = refl
 none_made s w Closes is = refl
@@ -281,14 +202,6 @@ module _ (order : List Event) (n : ModelNode) (facts : Facts order n) (more : n.
       passed-is order n.at.committed n.at.certified next (omega arith) (omega (arith, more))
       (omega (arith, facts.in_order.certified_fits, facts.in_order.taken_fits))
 
-  -- the rows where a live transaction commits: its changes are on them
-  pub rows-committer : (s : ℕ) (t : Live) → committer_of n.live next ≡ Some (s, t)
-      → rows_at order next ≡ ops_on t.ops (rows_at order n.at.committed)
-  rows-committer s t is =
-      let here = committer_there order n facts next s t is in
-      let passed = passed_there order n facts next s t here.0 here.1 in
-      passed.rows ∙ ap (λ m. ops_on t.ops (rows_at order m)) (one_less n.at.committed)
-
   -- where the number is no passed commit the rows stay
   pub rows-none : passed_at order n.at.committed n.at.certified next ≡ None → rows_at order next ≡ rows_at order n.at.committed
   rows-none none = rows-no_commit order n.at.committed fits_next (sym next_is ∙ none)
@@ -338,7 +251,7 @@ module _ (order : List Event) (n : ModelNode) (facts : Facts order n) (more : n.
       let found = some_entry n.live (λ e. is_certified_at next e.1.status) is in
       let e = found.0 in
       let one = local_is e.0 e.1 found.1.there found.1.passes (committer_of n.live next) refl in
-      let same : one.0 ≡ e.1 = some_is one.0 e.1 (sym one.2 ∙ found.1.there) in
+      let same : one.0 ≡ e.1 = same_Some one.0 e.1 (sym one.2 ∙ found.1.there) in
       absurd (true≢false (sym (ap (λ (t : Live). is_certified_at next t.status) same ∙ found.1.passes) ∙ none e.0 one.0 one.1))
 
   -- where the one that commits is not Certified there, or none commits, the number is not local

@@ -10,6 +10,8 @@ use Rattle.std.specs.declared.cmp.Ordering.TheVariants.{Less, Equal, Greater}
 use Rattle.std.specs.Cmp.{IsTotalOrder, nat_cmp_total}
 use Rattle.std.specs.FinMap.{nat_cmp-IsAntisymmetric}
 use Rattle.std.proofs.lemmas.Cmp.{then_total, on_total}
+use Rattle.std.proofs.lemmas.Option.{same_Some}
+use Rattle.std.proofs.lemmas.Bool.{false_from_ne_true}
 use Rattle.finite_map.specs.FiniteMap.{FiniteMap, empty, get, insert, remove, retain_keys, len, get-empty, get-insert, get-remove, get-retain_keys}
 use Rattle.wsrep_base.specs.declared.ids.TrxId.{TrxId}
 use Rattle.wsrep_base.specs.Trx.{trx_cmp}
@@ -42,7 +44,6 @@ use Rattle.cert_meaning.specs.Verdict.{trx_of}
 use Rattle.cert_meaning.specs.Fold.{Effect, Same, Closes, Adds, Commits, effect_of, judged_write, affected, written, reported, changed_by, after, after_next, state_at, fragment_by, commit_of, commit_made, commit_written, committed_ops, ops_by, ops_written}
 use Rattle.node_meaning.specs.Node.{rows_at}
 use Rattle.node_meaning.specs.Facts.{commit_at}
-use Rattle.node_meaning.proofs.EntryLaws.{some_is, not_true}
 use Rattle.node_meaning.proofs.AdvanceFacts.{rows-no_commit, rows-commit}
 
 -- ---- changes that keys cover
@@ -170,7 +171,7 @@ option_covered (Some fs) all = all fs refl
 
 put_covered : (b : Bool) (fs gs : List Fragment) (o : Option (List Fragment)) → cond b (Some fs) o ≡ Some gs → FragmentsCovered fs
     → (o ≡ Some gs → FragmentsCovered gs) → FragmentsCovered gs
-put_covered true fs gs o is here there = subst FragmentsCovered (some_is fs gs is) here
+put_covered true fs gs o is here there = subst FragmentsCovered (same_Some fs gs is) here
 put_covered false fs gs o is here there = there is
 
 gone_covered : (b : Bool) (gs : List Fragment) (o : Option (List Fragment)) → cond b None o ≡ Some gs
@@ -282,8 +283,8 @@ made_covered s w Same c ops own all is changes = cc
 made_covered s w Closes c ops own all is changes = cc
 made_covered s w Adds c ops own all is changes = cc
 made_covered s w Commits c ops own all is changes =
-    subst (λ (d : CommitItem). AllCovered d.keys ops) (some_is _ c is)
-    (subst (AllCovered (whole_keys (fragments_of s (trx_of w)) w.keys)) (some_is (whole_ops (fragments_of s (trx_of w)) w.ops) ops changes)
+    subst (λ (d : CommitItem). AllCovered d.keys ops) (same_Some _ c is)
+    (subst (AllCovered (whole_keys (fragments_of s (trx_of w)) w.keys)) (same_Some (whole_ops (fragments_of s (trx_of w)) w.ops) ops changes)
     (whole_covered (fragments_of s (trx_of w)) w.keys w.ops (fragments_covered s (trx_of w) all) own))
 
 write_covered : (s : FoldState) (member : ℕ) (body : List ℕ) (o : Option WriteSet) (c : CommitItem) (ops : List Op) → decoded body ≡ o
@@ -311,7 +312,7 @@ NoneNames id [] = Unit {0}
 NoneNames id (op ∷ ops) = (id_of op ≢ id) × NoneNames id ops
 
 untied : (id other : RowId) → other ≢ id → eq_by_cmp row_cmp id other ≡ false
-untied id other differs = not_true _ (λ same. differs (sym (row_tied id other same)))
+untied id other differs = false_from_ne_true _ (λ same. differs (sym (row_tied id other same)))
 
 row_stays : (rows : Rows) (id other : RowId) (row : Option (List ℕ)) → other ≢ id → get (with_row rows other row) id ≡ get rows id
 row_stays rows id other None differs =

@@ -1,29 +1,17 @@
 -- The entries of a map by numbers: which are members, and what a search among them finds.
-use Rattle.std.proofs.Common.{◌≡◌, ℕ, ◌≤◌, ◌<◌, arith, eq-eqb, Bool, true, false, cond, ◌&&◌, ◌||◌, inl, inr, List, [], ◌∷◌, Option, None, Some, refl, sym, ap, ◌∙◌, true≢false}
+use Rattle.std.proofs.Common.{◌≡◌, ℕ, ◌≤◌, ◌<◌, arith, eq-eqb, Bool, true, false, cond, ◌&&◌, inl, inr, List, [], ◌∷◌, Option, None, Some, refl, sym, ap, ◌∙◌, true≢false}
 use Rattle.std.specs.Prelude.{T, ◌==◌, is_some}
-use Rattle.std.specs.Option.{unwrap_or}
 use Rattle.std.specs.List.{find, list_any}
 use Rattle.std.specs.Ordering.{nat_cmp, is_lt, is_eq, eq_by_cmp}
 use Rattle.std.specs.declared.cmp.Ordering.{Ordering}
 use Rattle.std.specs.declared.cmp.Ordering.TheVariants.{Less, Equal, Greater}
-use Rattle.std.specs.Cmp.{eq_by_cmp_equiv, nat_cmp_total}
-use Rattle.std.specs.FinMap.{nat_cmp-IsAntisymmetric}
 use Rattle.std.specs.FinMap.Entries.{is_sorted, below_all}
 use Rattle.std.specs.FinMap.Entries as entries
-use Rattle.finite_map.specs.FiniteMap.{FiniteMap, get, insert, remove, get-entries, get-insert, get-remove}
+use Rattle.std.proofs.lemmas.Bool.{false_from_ne_true, or_parts}
+use Rattle.std.proofs.lemmas.Option.{same_Some}
+use Rattle.finite_map.specs.FiniteMap.{FiniteMap, get, get-entries}
+use Rattle.finite_map.proofs.Edits.{numbers, tied, itself}
 use Rattle.key_sets.proofs.ListLemmas.{In, some_in, any_of}
-
-pub is_equal : (o : Ordering) → is_eq o ≡ true → o ≡ Equal
-is_equal Less e = cc
-is_equal Equal e = refl
-is_equal Greater e = cc
-
--- numbers that tie are equal
-pub number-exact : (a b : ℕ) → eq_by_cmp nat_cmp a b ≡ true → a ≡ b
-number-exact a b e = nat_cmp-IsAntisymmetric a b (is_equal (nat_cmp a b) e)
-
-pub number-itself : (a : ℕ) → eq_by_cmp nat_cmp a a ≡ true
-number-itself a = (eq_by_cmp_equiv nat_cmp_total).refl a
 
 both_true : (a b : Bool) → T (a && b) → T a × T b
 both_true true b h = (tt, h)
@@ -34,17 +22,6 @@ below_not_same Less h = refl
 below_not_same Equal h = absurd h
 below_not_same Greater h = absurd h
 
-is_or : (b c d : Bool) → b ≡ d → d || c ≡ false → (b ≡ false) × (c ≡ false)
-is_or b c true e h = cc
-is_or b c false e h = (e, h)
-
-pub not_true : (b : Bool) → (b ≡ true → ⊥) → b ≡ false
-not_true true h = absurd (h refl)
-not_true false h = refl
-
-pub not_itself : (q k : ℕ) → eq_by_cmp nat_cmp q k ≡ false → q ≡ k → ⊥
-not_itself q k differs same = true≢false (sym (number-itself k) ∙ ap (λ p. eq_by_cmp nat_cmp p k) (sym same) ∙ differs)
-
 -- what is some value is not none
 pub some_not_none : {X : Type 0} (a : X) (o : Option X) → o ≡ Some a → o ≡ None → ⊥
 some_not_none a o some none = true≢false (ap is_some (sym some ∙ none))
@@ -53,16 +30,13 @@ pub less_from : (a b : ℕ) → a ≤ b → a == b ≡ false → a < b
 less_from a b fits unequal =
     let d : a ≡ b → ⊥ = λ same. true≢false (sym (eq-eqb a b same) ∙ unequal) in omega (arith, fits, d)
 
-pub some_is : {X : Type 0} (a b : X) → Some a ≡ Some b → a ≡ b
-some_is a b e = ap (λ o. unwrap_or o a) e
-
 module _ {X : Type 0} where
   abbrev keyed : ℕ → List (ℕ × X) → Option X
   keyed = entries.find nat_cmp
 
   found_here : (q : ℕ) (v : X) (e : ℕ × X) (es : List (ℕ × X)) (b : Bool) → eq_by_cmp nat_cmp q e.0 ≡ b
       → cond b (Some e.1) (keyed q es) ≡ Some v → (keyed q es ≡ Some v → In (q, v) es) → In (q, v) (e ∷ es)
-  found_here q v e es true same h later = inl (λ i. (number-exact q e.0 same i, some_is v e.1 (sym h) i))
+  found_here q v e es true same h later = inl (λ i. (tied numbers q e.0 same i, same_Some v e.1 (sym h) i))
   found_here q v e es false same h later = inr (later h)
 
   in_from_keyed : (q : ℕ) (v : X) (es : List (ℕ × X)) → keyed q es ≡ Some v → In (q, v) es
@@ -78,13 +52,13 @@ module _ {X : Type 0} where
   not_here : (q : ℕ) (v : X) (e : ℕ × X) (es : List (ℕ × X)) (b : Bool) → eq_by_cmp nat_cmp q e.0 ≡ b
       → keyed e.0 es ≡ None → keyed q es ≡ Some v → cond b (Some e.1) (keyed q es) ≡ Some v
   not_here q v e es true same none h =
-      let here = ap (λ p. keyed p es) (number-exact q e.0 same) in cc
+      let here = ap (λ p. keyed p es) (tied numbers q e.0 same) in cc
   not_here q v e es false same none h = h
 
   keyed_from_in : (q : ℕ) (v : X) (es : List (ℕ × X)) → T (is_sorted nat_cmp es) → In (q, v) es → keyed q es ≡ Some v
   keyed_from_in q v [] rising i = absurd i
   keyed_from_in q v (e ∷ es) rising (inl same) =
-      ap (λ b. cond b (Some e.1) (keyed q es)) (ap (λ (p : ℕ × X). eq_by_cmp nat_cmp q p.0) (sym same) ∙ number-itself q)
+      ap (λ b. cond b (Some e.1) (keyed q es)) (ap (λ (p : ℕ × X). eq_by_cmp nat_cmp q p.0) (sym same) ∙ itself numbers q)
       ∙ ap (λ (p : ℕ × X). Some p.1) (sym same)
   keyed_from_in q v (e ∷ es) rising (inr later) =
       let parts = both_true _ _ rising in
@@ -105,7 +79,7 @@ pub record Found {X : Type 0} (m : FiniteMap nat_cmp X) (test : ℕ × X → Boo
 module _ {X : Type 0} (test : X → Bool) where
   found_at : (x : X) (xs : List X) (y : X) (b : Bool) → test x ≡ b → cond b (Some x) (find test xs) ≡ Some y
       → (find test xs ≡ Some y → In y xs × (test y ≡ true)) → In y (x ∷ xs) × (test y ≡ true)
-  found_at x xs y true same h later = let is = some_is x y h in (inl (sym is), ap test (sym is) ∙ same)
+  found_at x xs y true same h later = let is = same_Some x y h in (inl (sym is), ap test (sym is) ∙ same)
   found_at x xs y false same h later = let rest = later h in (inr rest.0, rest.1)
 
   -- what is found is a member that passes
@@ -127,11 +101,11 @@ module _ {X : Type 0} (test : X → Bool) where
   -- where no member passes the test, none does
   pub none_of : (xs : List X) (y : X) → list_any test xs ≡ false → In y xs → test y ≡ false
   none_of [] y h i = absurd i
-  none_of (x ∷ xs) y h (inl is) = ap test is ∙ (is_or (test x) (list_any test xs) (test x) refl h).0
-  none_of (x ∷ xs) y h (inr i) = none_of xs y (is_or (test x) (list_any test xs) (test x) refl h).1 i
+  none_of (x ∷ xs) y h (inl is) = ap test is ∙ (or_parts (test x) (list_any test xs) h).0
+  none_of (x ∷ xs) y h (inr i) = none_of xs y (or_parts (test x) (list_any test xs) h).1 i
 
   pub any_none : (xs : List X) → ((y : X) → In y xs → test y ≡ false) → list_any test xs ≡ false
-  any_none xs h = not_true _ (λ yes. let found = some_in test xs yes in true≢false (sym found.2 ∙ h found.0 found.1))
+  any_none xs h = false_from_ne_true _ (λ yes. let found = some_in test xs yes in true≢false (sym found.2 ∙ h found.0 found.1))
 
 module _ {X : Type 0} (m : FiniteMap nat_cmp X) (test : ℕ × X → Bool) where
   pub entry_found : (e : ℕ × X) → find test m.entries ≡ Some e → Found m test e
@@ -155,35 +129,3 @@ module _ {X : Type 0} (m : FiniteMap nat_cmp X) (test : ℕ × X → Bool) where
 
   pub entry_any : (q : ℕ) (v : X) → get m q ≡ Some v → test (q, v) ≡ true → list_any test m.entries ≡ true
   entry_any q v h passes = any_of test (q, v) m.entries (in_from_get m q v h) passes
-
--- ---- look-ups after one edit
-module _ {X : Type 0} where
-  abbrev After : Bool → ℕ → ℕ → X → FiniteMap nat_cmp X → X → Type 0
-  After true q k v m u = (q ≡ k) × (u ≡ v)
-  After false q k v m u = get m q ≡ Some u
-
-  -- what a map has after an insertion: the value there, or what it had elsewhere
-  pub data Inserted (q k : ℕ) (v : X) (m : FiniteMap nat_cmp X) (u : X) : Type 0 where
-    Here : q ≡ k → u ≡ v → Inserted q k v m u
-    There : eq_by_cmp nat_cmp q k ≡ false → get m q ≡ Some u → Inserted q k v m u
-
-  inserted_by : (m : FiniteMap nat_cmp X) (k : ℕ) (v : X) (q : ℕ) (u : X) (b : Bool) → eq_by_cmp nat_cmp q k ≡ b
-      → cond b (Some v) (get m q) ≡ Some u → Inserted q k v m u
-  inserted_by m k v q u true e h = Here (number-exact q k e) (some_is u v (sym h))
-  inserted_by m k v q u false e h = There e h
-
-  pub inserted : (m : FiniteMap nat_cmp X) (k : ℕ) (v : X) (q : ℕ) (u : X) → get (insert m k v) q ≡ Some u → Inserted q k v m u
-  inserted m k v q u h = inserted_by m k v q u (eq_by_cmp nat_cmp q k) refl (sym (get-insert nat_cmp_total m k v q) ∙ h)
-
-  -- what a map has after a removal it had elsewhere
-  pub record Left (q k : ℕ) (m : FiniteMap nat_cmp X) (u : X) : Type 0 where
-    pub elsewhere : eq_by_cmp nat_cmp q k ≡ false
-    pub there : get m q ≡ Some u
-
-  left_by : (m : FiniteMap nat_cmp X) (k q : ℕ) (u : X) (b : Bool) → eq_by_cmp nat_cmp q k ≡ b
-      → cond b None (get m q) ≡ Some u → Left q k m u
-  left_by m k q u true e h = cc
-  left_by m k q u false e h = record { elsewhere = e; there = h }
-
-  pub left : (m : FiniteMap nat_cmp X) (k q : ℕ) (u : X) → get (remove m k) q ≡ Some u → Left q k m u
-  left m k q u h = left_by m k q u (eq_by_cmp nat_cmp q k) refl (sym (get-remove nat_cmp_total m k q) ∙ h)

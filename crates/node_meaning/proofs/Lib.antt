@@ -1,13 +1,10 @@
 pub mod AdvanceFacts
 pub mod CertifyFacts
 pub mod ClientFacts
-pub mod CountLaws
 pub mod CoveredLaws
-pub mod DrainFacts
 pub mod EntryLaws
 pub mod FinishFacts
 pub mod GrowFacts
-pub mod KeptFacts
 pub mod LockLaws
 pub mod PassedLaws
 pub mod RangeLaws
@@ -17,6 +14,3 @@ pub mod StartImages
 pub mod StartNode
 pub mod TakeFacts
 pub mod UnitLaws
-pub mod WorkedNames
-pub mod WorkedRows
-pub mod WorkedUnits

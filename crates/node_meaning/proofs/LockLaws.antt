@@ -6,11 +6,12 @@ use Rattle.std.specs.List.{filter_map, cons_option, list_any}
 use Rattle.std.specs.Ordering.{nat_cmp, is_lt, is_eq, eq_by_cmp}
 use Rattle.std.specs.declared.cmp.Ordering.{Ordering}
 use Rattle.std.specs.declared.cmp.Ordering.TheVariants.{Less, Equal, Greater}
-use Rattle.std.specs.Cmp.{IsTotalOrder, eq_by_cmp_equiv, nat_cmp_total}
+use Rattle.std.specs.Cmp.{IsTotalOrder, Equal-is, eq_by_cmp_equiv, nat_cmp_total}
 use Rattle.std.specs.FinMap.{IsAntisymmetric}
 use Rattle.std.specs.FinMap.Entries.{find, is_sorted, below_all, is_some-find}
 use Rattle.std.proofs.lemmas.Bool.{eqb-true}
 use Rattle.std.proofs.lemmas.List.{nil_from_length}
+use Rattle.finite_map.proofs.Edits.{numbers, tied}
 use Rattle.finite_map.specs.FiniteMap.{FiniteMap, empty, get, insert, remove, keys, len, get-entries, len-entries, get-empty, get-insert, get-remove, get-from_entries, same_map, same_entries_map}
 use Rattle.key_sets.specs.declared.kind.Kind.{Kind}
 use Rattle.key_sets.specs.declared.parts.Parts.{Parts}
@@ -28,7 +29,6 @@ use Rattle.node_meaning.specs.Node.{ApplyUnit, some_keys, live_lock, unit_lock, 
 use Rattle.node_meaning.specs.Facts.{AreApart}
 use Rattle.row_locks.proofs.HolderLemmas.{holder_total, holder_equivalence, holder_exact, same_holder-exact, same_holder-itself}
 use Rattle.row_locks.proofs.LockLemmas.{keys_at-insert, keys_at-remove}
-use Rattle.node_meaning.proofs.EntryLaws.{number-exact, is_equal}
 
 -- ---- what stands in the locks for one transaction or unit
 
@@ -140,7 +140,7 @@ module _ {X A : Type 0} (wrap : ℕ → Holder) (lock : X → Option A) where
         → find holder_cmp (wrap n) (listed (e ∷ es)) ≡ in_option lock (cond b (Some e.1) (find nat_cmp n es))
     find_step n e es true here below rest =
         put_here n e.0 (lock e.1) (listed es) here
-        (ap (λ m. find holder_cmp (wrap m) (listed es)) (number-exact n e.0 here) ∙ find-below e.0 es below)
+        (ap (λ m. find holder_cmp (wrap m) (listed es)) (tied numbers n e.0 here) ∙ find-below e.0 es below)
     find_step n e es false here below rest = not_put n e.0 (lock e.1) (listed es) here ∙ rest
 
     find-listed : (n : ℕ) (es : List (ℕ × X)) → T (is_sorted nat_cmp es)
@@ -412,7 +412,7 @@ module _ {K X : Type 0} {R : K → K → Ordering} where
       let there : list_any (eq_by_cmp R q) (keys m) ≡ true =
       sym (is_some-find R q m.entries) ∙ ap is_some (sym (get-entries m q) ∙ is) in
       let found = some_in (eq_by_cmp R q) (keys m) there in
-      subst (λ k. In k (keys m)) (sym (exact q found.0 (is_equal (R q found.0) found.2))) found.1
+      subst (λ k. In k (keys m)) (sym (exact q found.0 ((Equal-is (R q found.0)).0 found.2))) found.1
 
   -- and a key that is listed answers
   pub from_keys : IsTotalOrder R → (m : FiniteMap R X) (q : K) → In q (keys m) → (x : X) × (get m q ≡ Some x)

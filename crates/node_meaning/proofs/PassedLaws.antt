@@ -3,6 +3,8 @@ use Rattle.std.proofs.Common.{◌≡◌, ℕ, zero, suc, ◌+◌, ◌-◌, ◌�
 use Rattle.std.specs.Prelude.{◌==◌, nat_lt, slice_get, cond, T, map}
 use Rattle.std.specs.List.{filter}
 use Rattle.std.proofs.lemmas.Option.{slice_get_within}
+use Rattle.std.proofs.lemmas.Option.{same_Some}
+use Rattle.std.proofs.lemmas.Bool.{and_parts, false_from_ne_true}
 use Rattle.key_sets.specs.Keys.{Keys, touches}
 use Rattle.key_sets.proofs.ListLemmas.{In}
 use Rattle.wsrep_base.specs.Trx.{greatest}
@@ -15,7 +17,7 @@ use Rattle.cert_meaning.proofs.CommitLaws.{commits-rise, numbered-at, none-numbe
 use Rattle.node_meaning.specs.Node.{ahead, passed_at}
 use Rattle.node_meaning.specs.Steps.{touching_before}
 use Rattle.node_meaning.specs.Facts.{commit_at}
-use Rattle.node_meaning.proofs.EntryLaws.{some_is, some_not_none, not_true}
+use Rattle.node_meaning.proofs.EntryLaws.{some_not_none}
 
 -- ---- one number
 differs : (m n : ℕ) → (m ≡ n → ⊥) → m == n ≡ false
@@ -64,7 +66,7 @@ numbered_here : (n : ℕ) (d : CommitItem) (ds : List CommitItem) (c : CommitIte
     → cond b (Some d) (commit_numbered n ds) ≡ Some c → (commit_numbered n ds ≡ Some c → In c ds × (c.number ≡ n))
     → In c (d ∷ ds) × (c.number ≡ n)
 numbered_here n d ds c true same h later =
-    let d_is = some_is d c h in
+    let d_is = same_Some d c h in
     (inl (sym d_is), ap (λ (x : CommitItem). x.number) (sym d_is) ∙ eqb→eq d.number n (subst T (sym same) tt))
 numbered_here n d ds c false same h later = let rest = later h in (inr rest.0, rest.1)
 
@@ -228,10 +230,6 @@ pub record IsInTheWay (order : List Event) (committed number : ℕ) (keys : Keys
   pub is_commit : commit_at order earlier ≡ Some item
   pub touching : touches item.keys keys ≡ true
 
-both_are : (a b : Bool) → a && b ≡ true → (a ≡ true) × (b ≡ true)
-both_are true b h = (refl, h)
-both_are false b h = cc
-
 and_are : (a b : Bool) → a ≡ true → b ≡ true → a && b ≡ true
 and_are true b one other = other
 and_are false b one other = one
@@ -248,7 +246,7 @@ module _ (order : List Event) (committed certified number : ℕ) (keys : Keys) (
       let c = found.0 in
       let kept = in_filter in_the_way (ahead order committed certified) c found.1 in
       let passed = from_ahead order committed certified c fits kept.0 in
-      let tests = both_are (nat_lt c.number number) (touches c.keys keys) kept.1 in
+      let tests = and_parts (nat_lt c.number number) (touches c.keys keys) kept.1 in
       record {
         above = subst (λ m. committed < m) (sym found.2) passed.above;
         below = subst (λ m. m < number) (sym found.2) (ltb-true c.number number tests.0);
@@ -277,6 +275,6 @@ module _ (order : List Event) (committed certified number : ℕ) (keys : Keys) (
       → (earlier : ℕ) (c : CommitItem) → committed < earlier → earlier < number → commit_at order earlier ≡ Some c
       → touches c.keys keys ≡ false
   none_touching within none earlier c above below is =
-      not_true _ (λ yes.
+      false_from_ne_true _ (λ yes.
       none_in (touching_before (ahead order committed certified) number keys) earlier none
       (in_touching earlier (omega (arith, below, within)) (record { above = above; below = below; item = c; is_commit = is; touching = yes })))

@@ -1,5 +1,5 @@
 -- A node at its start has the facts.
-use Rattle.std.proofs.Common.{◌≡◌, ℕ, List, Some, ap, sym, ◌∙◌, arith, true≢false}
+use Rattle.std.proofs.Common.{◌≡◌, ℕ, List, [], Some, refl, ap, sym, ◌∙◌, arith, true≢false}
 use Rattle.std.specs.Prelude.{is_some}
 use Rattle.std.specs.Ordering.{nat_cmp}
 use Rattle.finite_map.specs.FiniteMap.{empty, get, get-empty}
@@ -27,10 +27,17 @@ all_apart h g other = ap (λ keys. touches keys (keys_at (locks_of empty empty) 
 pub start_facts : (order : List Event) (id : List ℕ) (member : ℕ) → Facts order (start_node id member)
 start_facts order id member = record {
   in_order = record { committed_fits = omega arith; certified_fits = omega arith; taken_fits = omega arith };
-  own = λ s t there. absurd (nothing s t there);
-  begins = λ s o t u one other same. absurd (nothing s t one);
-  passed = λ s t there. absurd (nothing s t there);
-  sent = tt;
+  sendable = λ s t there. absurd (nothing s t there);
+  sent = record {
+    sets = [];
+    are = refl;
+    lined = record {
+      ours = tt;
+      serials = omega arith;
+      each = λ s t there. absurd (nothing s t there);
+      begins = λ s o t u one other same. absurd (nothing s t one);
+    };
+  };
   units = λ k u there. absurd (nothing k u there);
   remote = λ k u there. absurd (nothing k u there);
   apart = all_apart;

@@ -15,12 +15,14 @@ use Rattle.write_set.specs.Rules.{row_parts}
 use Rattle.cert_meaning.specs.declared.items.CommitItem.{CommitItem}
 use Rattle.cert_meaning.specs.Fold.{state_at}
 use Rattle.cert_meaning.proofs.FoldLaws.{some_there, rows-next}
+use Rattle.client_trx.specs.Live.{Live}
 use Rattle.apply_unit.specs.Results.{Image}
 use Rattle.apply_unit.specs.Task.{task}
 use Rattle.node_meaning.specs.Node.{ModelNode, ApplyUnit, rows_at}
+use Rattle.node_meaning.specs.Steps.{committer_of}
 use Rattle.node_meaning.specs.Facts.{Facts, commit_at}
 use Rattle.node_meaning.specs.Units.{with_id, named_rows, images_of, ops_by, ops_at, rows_before, unit_task}
-use Rattle.node_meaning.proofs.AdvanceFacts.{Applies, rows-commit}
+use Rattle.node_meaning.proofs.AdvanceFacts.{Applies, rows-commit, passed_there, committer_there}
 use Rattle.node_meaning.proofs.CoveredLaws.{AllCovered, commit_covered, row_before}
 
 -- ---- by the number of an event
@@ -118,3 +120,13 @@ task-unit order n number u facts there =
     task-clear order n.at.committed number unit.item
     (omega (arith, unit.within, facts.in_order.certified_fits, facts.in_order.taken_fits)) unit.above unit.is_commit
     (λ earlier d above below is. ap (touches d.keys) unit.keys ∙ unit.clear earlier d above below is)
+
+-- the rows where a live transaction commits: its changes are on them
+pub rows-committer : (order : List Event) (n : ModelNode) (facts : Facts order n) → n.at.committed < n.at.certified
+    → (s : ℕ) (t : Live) → committer_of n.live (n.at.committed + 1) ≡ Some (s, t)
+    → rows_at order (n.at.committed + 1) ≡ ops_on t.ops (rows_at order n.at.committed)
+rows-committer order n facts more s t is =
+    let next = n.at.committed + 1 in
+    let here = committer_there order n facts next s t is in
+    rows-event order n.at.committed (omega (arith, more, facts.in_order.certified_fits, facts.in_order.taken_fits))
+    ∙ ap (λ ops. ops_on ops (rows_at order n.at.committed)) (passed_there order n facts next s t here.0 here.1).changes

@@ -202,6 +202,15 @@ finish_unit n number (Some unit) = finish_stage n number unit.keys unit.stage
 unfoldable pub finish_step : ModelNode → ℕ → Answer × ModelNode
 finish_step n number = finish_unit n number (get n.units number)
 
+abbrev pub is_started_stage : Stage → Bool
+is_started_stage Started = true
+is_started_stage Finished = false
+
+-- whether there is a unit that has started and not finished
+abbrev pub is_started : Option ApplyUnit → Bool
+is_started None = false
+is_started (Some unit) = is_started_stage unit.stage
+
 -- ---- committing
 abbrev pub is_finished_stage : Stage → Bool
 is_finished_stage Started = false

@@ -9,11 +9,11 @@ use Rattle.std.specs.Option.{option_map}
 use Rattle.std.specs.Ordering.{nat_cmp, eq_by_cmp, is_lt, is_eq}
 use Rattle.std.specs.declared.cmp.Ordering.{Ordering}
 use Rattle.std.specs.declared.cmp.Ordering.TheVariants.{Less, Equal, Greater}
+use Rattle.finite_map.proofs.Edits.{numbers, tied}
 use Rattle.finite_map.specs.FiniteMap.{FiniteMap, empty, get, insert, remove, retain_keys, get-entries, entries-insert}
 use Rattle.finite_map.specs.Hashed.{get-hashed, hashed-insert, hashed-remove}
 use Rattle.apply_unit.specs.Task.{ModelTask}
 use Rattle.key_sets.specs.Keys.{Keys}
-use Rattle.node_meaning.proofs.EntryLaws.{number-exact}
 use Rattle.node_meaning.specs.Steps.{is_finished_stage}
 use Rattle.node_parts.specs.Units.{Work, UnitTable, added, finished, finished_unit, finished_work, without, rows_of, sum_rows, total_rows, is_started_stage}
 use Rattle.node_parts.specs.UnitEntries.{stage_of, unit_of, work_of, units_in, work_in}
@@ -119,7 +119,7 @@ sum_taken k [] rising = refl
 sum_taken k (e ∷ es) rising =
     let parts = both_true _ _ rising in
     taken_by (eq_by_cmp nat_cmp k e.0) e (find nat_cmp k es) es (where_key nat_cmp (λ x. not (eq_by_cmp nat_cmp k x)) es)
-    (λ same_number. none_taken k es (subst (λ n. T (below_all nat_cmp n es)) (sym (number-exact k e.0 same_number)) parts.0))
+    (λ same_number. none_taken k es (subst (λ n. T (below_all nat_cmp n es)) (sym (tied numbers k e.0 same_number)) parts.0))
     (sum_taken k es parts.1)
 
 -- a unit that is taken out takes its rows along

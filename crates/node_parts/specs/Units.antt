@@ -5,7 +5,7 @@ use Rattle.finite_map.specs.FiniteMap.{FiniteMap, empty, get, insert, remove}
 use Rattle.apply_unit.specs.Task.{ModelTask}
 use Rattle.key_sets.specs.Keys.{Keys}
 use Rattle.node_meaning.specs.Node.{ApplyUnit}
-use Rattle.node_meaning.specs.declared.progress.Stage.{Stage}
+pub use Rattle.node_meaning.specs.Steps.{is_started, is_started_stage}
 use Rattle.node_meaning.specs.declared.progress.Stage.TheVariants.{Started, Finished}
 
 -- how many rows the changes of a unit name, and its task once that is done
@@ -62,15 +62,6 @@ without t number = record {
   work = remove t.work number;
   room = t.room - rows_of (get t.work number);
 }
-
-abbrev pub is_started_stage : Stage → Bool
-is_started_stage Started = true
-is_started_stage Finished = false
-
--- whether there is a unit that has started and not finished
-abbrev pub is_started : Option ApplyUnit → Bool
-is_started None = false
-is_started (Some unit) = is_started_stage unit.stage
 
 abbrev pub sum_rows : List (ℕ × Work) → ℕ
 sum_rows [] = 0

@@ -5,8 +5,6 @@ mod inbox;
 mod passed;
 mod queue;
 mod slots;
-#[cfg(test)]
-mod tests;
 mod transactions;
 mod units;
 

@@ -15,6 +15,3 @@ pub use laws::one_spelling;
 pub use reading::decode_event;
 pub use step::{Act, Answer, Step};
 pub use writing::{encode_event, event_len};
-
-#[cfg(test)]
-mod tests;

@@ -92,22 +92,3 @@ fn put(bytes: &mut Vec<u8>, piece: &[u8])
         Err(_) => unreachable!(),
     }
 }
-
-#[cfg(test)]
-mod tests {
-    use super::*;
-    use std::test::Fail;
-
-    #[test]
-    fn takes_pieces_while_there_is_room(rt: HostRuntime) -> Result<(), Fail> {
-        let mut fails = CallList::new(rt.alloc());
-        fails.push(2)?;
-        let mut sink = MemSink::new(4, fails)?;
-        assert_eq!(rt; sink.write(b"abc".as_slice()), Ok(3));
-        assert_eq!(rt; sink.write(b"d".as_slice()), Err(Failed));
-        assert_eq!(rt; sink.write(b"de".as_slice()), Err(Failed));
-        assert_eq!(rt; sink.write(b"d".as_slice()), Ok(1));
-        assert_eq!(rt; sink.written(), b"abcd".as_slice());
-        Ok(())
-    }
-}

@@ -87,26 +87,3 @@ fn copy(from: &[u8], most: usize, to: &mut [u8]) -> usize
     to[..count].copy_from_slice(&from[..count]);
     count
 }
-
-#[cfg(test)]
-mod tests {
-    use super::*;
-    use std::test::Fail;
-
-    #[test]
-    fn gives_pieces_and_fails_where_listed(rt: HostRuntime) -> Result<(), Fail> {
-        let mut bytes = ByteList::new(rt.alloc());
-        bytes.extend(b"abcde".as_slice())?;
-        let mut fails = CallList::new(rt.alloc());
-        fails.push(2)?;
-        let mut source = MemSource::new(bytes, 3, fails);
-        let mut into = [0; 4];
-        assert_eq!(rt; source.read(&mut into), Ok(3));
-        assert_eq!(rt; into, [97, 98, 99, 0]);
-        assert_eq!(rt; source.read(&mut into), Err(Failed));
-        assert_eq!(rt; source.read(&mut into), Ok(2));
-        assert_eq!(rt; into, [100, 101, 99, 0]);
-        assert_eq!(rt; source.read(&mut into), Ok(0));
-        Ok(())
-    }
-}

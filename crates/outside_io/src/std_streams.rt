@@ -69,35 +69,3 @@ impl<W: Write> Sink for StdSink<W> {
         }
     }
 }
-
-#[cfg(test)]
-mod tests {
-    use super::*;
-    use std::test::Fail;
-
-    #[test]
-    fn reads_and_writes(rt: HostRuntime) -> Result<(), Fail> {
-        let mut source = StdSource::new(b"abcde".as_slice());
-        let mut into = [0; 3];
-        assert_eq!(rt; source.read(&mut into)?, 3);
-        assert_eq!(rt; into, [97, 98, 99]);
-        assert_eq!(rt; source.read(&mut into)?, 2);
-        assert_eq!(rt; source.read(&mut into)?, 0);
-
-        let mut sink = StdSink::new(Vec::new(rt.alloc()));
-        assert_eq!(rt; sink.write(b"xy".as_slice())?, 2);
-        assert_eq!(rt; sink.writer.as_slice(), b"xy".as_slice());
-        Ok(())
-    }
-
-    // A slice to write into takes no byte once it is full.
-    #[test]
-    fn a_write_of_no_byte_fails(rt: HostRuntime) -> Result<(), Fail> {
-        let mut room = [0; 2];
-        let mut sink = StdSink::new(room.as_mut_slice());
-        assert_eq!(rt; sink.write(b"xyz".as_slice())?, 2);
-        assert_eq!(rt; sink.write(b"z".as_slice()), Err(Failed));
-        assert_eq!(rt; sink.faults, 1);
-        Ok(())
-    }
-}

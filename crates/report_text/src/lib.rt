@@ -8,6 +8,3 @@ mod replies;
 
 pub use answers::put_answer;
 pub use nodes::put_node;
-
-#[cfg(test)]
-mod tests;

@@ -3,8 +3,6 @@
 
 mod holder;
 mod lock_table;
-#[cfg(test)]
-mod tests;
 
 pub use holder::{Grant, Holder};
 pub use lock_table::LockTable;

@@ -20,7 +20,7 @@ pub enum Call {
     Poll,
 }
 
-/// Calls of one client, in order.
+/// Calls of one client, in order. For runs with threads, where each session has its list.
 pub type ClientCallList = ItemList<Call>;
 
 /// What a client is told.

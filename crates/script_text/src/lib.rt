@@ -11,6 +11,3 @@ mod words;
 
 pub use line::{Header, Line, ScriptCause};
 pub use parse::{parse_first, parse_header, parse_line};
-
-#[cfg(test)]
-mod tests;

@@ -2,7 +2,5 @@
 #![tactic(auto)]
 
 mod replay;
-#[cfg(test)]
-mod tests;
 
 pub use replay::ready;

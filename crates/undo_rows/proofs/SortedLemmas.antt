@@ -30,7 +30,7 @@ items_again : (items : List RowItem) → items ≡ map item_of (pairs items)
 items_again [] = refl
 items_again (item ∷ items) = ap (λ l. item ∷ l) (items_again items)
 
-entries_again : (es : List (RowId × List ℕ)) → es ≡ entries_by (λ (row : List ℕ). row) es
+pub entries_again : (es : List (RowId × List ℕ)) → es ≡ entries_by (λ (row : List ℕ). row) es
 entries_again [] = refl
 entries_again (e ∷ es) = ap (λ l. e ∷ l) (entries_again es)
 

@@ -6,6 +6,7 @@ ghost use Rattle.row_model.specs.Rows.{with_row};
 ghost use Rattle.undo_rows.specs.Overlay.{rows_in};
 ghost use Rattle.undo_rows.specs.RowTable.{seen, seen_of, written, without, other_owner, row_items};
 
+use crate::hashed_rows::{keep_all, row_at, set_row};
 use crate::owned_rows::OwnedRows;
 use crate::rows::{Rows, Written};
 use item_list::ItemList;
@@ -50,15 +51,6 @@ impl Overlay {
             changes,
         })
     }
-
-    fn other_owner(&self, owner: u8, id: &RowId) -> Option<u8>
-        ensures { result ≡ other_owner owner (get self.now.changes id.now) }
-    {
-        match self.changes.get(id) {
-            Some((other, _)) => if other == owner { None } else { Some(other) },
-            None => None,
-        }
-    }
 }
 
 impl Rows for Overlay {
@@ -66,7 +58,7 @@ impl Rows for Overlay {
 
     fn write(&mut self, owner: u8, op: &Op) -> Result<Written, NoMemory> {
         let id = op.id();
-        if let Some(other) = self.other_owner(owner, &id) {
+        if let Some(other) = self.changes.other_owner(owner, &id) {
             return Ok(Written::Owned(other));
         }
         let row = apply_op(self.seen_by(owner, &id), op);
@@ -96,7 +88,7 @@ impl Rows for Overlay {
     }
 
     fn committed(&self, id: &RowId) -> Option<Row> {
-        self.rows.get(id).copied()
+        row_at(&self.rows, id)
     }
 
     fn seen_by(&self, owner: u8, id: &RowId) -> Option<Row> {
@@ -115,39 +107,8 @@ impl Rows for Overlay {
     }
 }
 
-// Puts a row there, or none. There is room for it.
-fn set_row(rows: &mut HashMap<RowId, Row>, id: &RowId, row: Option<Row>)
-    requires { 0 < spare rows.old }
-    ensures rows { rows_in rows.new.entries ≡ with_row (rows_in rows.old.entries) id.now row }
-    ensures spare { spare rows.old ≤ spare rows.new + 1 }
-{
-    match row {
-        Some(row) => match rows.insert(*id, row) {
-            Ok(_) => {}
-            Err(_) => unreachable!(),
-        },
-        None => {
-            let _ = rows.remove(id);
-        }
-    }
-}
-
-// Moves all that an owner has changed to the committed rows, which have room for it.
-fn keep_all(rows: &mut HashMap<RowId, Row>, changes: &mut OwnedRows, owner: u8)
-    requires { changes.old.count ≤ spare rows.old }
-    ensures rows { (id : RowId) → get (rows_in rows.new.entries) id ≡ seen_of owner (get changes.old.changes id) (get (rows_in rows.old.entries) id) }
-    ensures changes { changes.new.changes ≡ without changes.old.changes owner }
-    ensures spare { changes.old.spare ≤ changes.new.spare }
-    ensures room { changes.new.count ≤ spare rows.new }
-    ensures more { spare rows.old + changes.new.count ≤ spare rows.new + changes.old.count }
-{
-    while let Some((id, row)) = changes.take_newest(owner) {
-        set_row(rows, &id, row);
-    }
-}
-
-// The rows, by table and then by row.
-fn items_in_order(alloc: Global, rows: &HashMap<RowId, Row>) -> Result<RowList, NoMemory>
+/// The rows of a table, by table and then by row.
+pub fn items_in_order(alloc: Global, rows: &HashMap<RowId, Row>) -> Result<RowList, NoMemory>
     ensures { IfOk result (λ list. list ≡ row_items (rows_in rows.now.entries)) }
 {
     let mut items = Vec::new(alloc);

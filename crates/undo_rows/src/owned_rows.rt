@@ -2,13 +2,15 @@ ghost use Rattle.std.specs.Prelude.{◌≡◌, ◌+◌, ◌^◌, ◌<◌, ◌≤
 ghost use Rattle.std.specs.List.{slice_index_or};
 ghost use Rattle.std.specs.Map.{lookup};
 ghost use Rattle.row_model.specs.RowOrder.{row_eq};
-ghost use Rattle.undo_rows.specs.OwnedRows.{before_in};
+ghost use Rattle.undo_rows.specs.OwnedRows.{before_in, changes_in};
 ghost use Rattle.row_model.specs.declared.row.RowId.{RowId};
 ghost use Rattle.finite_map.specs.FiniteMap.{empty, get, insert, remove};
 ghost use Rattle.row_model.specs.Rows.{row_cmp};
 ghost use Rattle.undo_rows.specs.RowTable.{other_owner, is_owned_by, without};
+ghost use Rattle.undo_rows.specs.RowLists.{Appends, rows_of};
 
-use row_model::{Row, RowId};
+use crate::row_list::push_row;
+use row_model::{Row, RowId, RowItem};
 use std::alloc::{AllocError, Global};
 use std::collections::HashMap;
 use std::marker::Model;
@@ -80,6 +82,16 @@ impl OwnedRows {
         }
     }
 
+    /// The owner of a row, where it is another one.
+    pub fn other_owner(&self, owner: u8, id: &RowId) -> Option<u8>
+        ensures { result ≡ other_owner owner (get self.now.changes id.now) }
+    {
+        match self.get(id) {
+            Some((other, _)) => if other == owner { None } else { Some(other) },
+            None => None,
+        }
+    }
+
     /// Makes room for so many more rows.
     pub fn reserve(&mut self, rows: usize) -> Result<(), NoMemory>
         ensures ok { OnOk result (rows ≤ self.new.spare) }
@@ -108,6 +120,13 @@ impl OwnedRows {
             Err(_) => return Err(AllocError),
         }
         Ok(())
+    }
+
+    /// Appends the rows that are not None, in no order.
+    pub fn push_rows(&self, items: &mut Vec<RowItem>) -> Result<(), NoMemory>
+        ensures { OnOk result (Appends (rows_of self.now.changes) items.old.items items.new.items) }
+    {
+        push_entries(&self.table, items)
     }
 
     /// Takes out all rows of an owner.
@@ -161,4 +180,15 @@ fn before_of(
         Some(entry) => entry.before,
         None => newest_of(newest, owner),
     }
+}
+
+// Appends the rows of a table that are not None.
+fn push_entries(table: &HashMap<RowId, OwnedRow>, items: &mut Vec<RowItem>) -> Result<(), NoMemory>
+    ensures { OnOk result (Appends (rows_of (changes_in table.now.entries))
+        items.old.items items.new.items) }
+{
+    for (id, entry) in table {
+        push_row(items, id, entry.row)?;
+    }
+    Ok(())
 }

@@ -58,7 +58,7 @@ kind_again kind.Shared = refl
 kind_again kind.Update = refl
 kind_again kind.Exclusive = refl
 
-known_kind : (k : Kind) → (kind_byte k == 0 || nat_lt 3 (kind_byte k)) ≡ false
+pub known_kind : (k : Kind) → (kind_byte k == 0 || nat_lt 3 (kind_byte k)) ≡ false
 known_kind kind.Shared = refl
 known_kind kind.Update = refl
 known_kind kind.Exclusive = refl
@@ -70,7 +70,7 @@ known_parts (Some row) = refl
 abbrev pub TakesKey : Place → (Parts × Kind) × Place → Type 0
 TakesKey p x = Took p (key_text x.0) x.1 × (parts_fit x.0.0 ≡ true) × parts_in_range x.0.0
 
-key_takes : (p : Place) (x : (Parts × Kind) × Place) → IsBytes p.left → key_at p ≡ Ok x → TakesKey p x
+pub key_takes : (p : Place) (x : (Parts × Kind) × Place) → IsBytes p.left → key_at p ≡ Ok x → TakesKey p x
 unfolding key_at
 key_takes p x fits e =
     let a = read_ok ℕ _ _ x e in
@@ -92,7 +92,7 @@ key_takes p x fits e =
     let text : a.0.0 ∷ c.0.0 ∷ names ≡ key_text key = λ i. tr.3 i ∷ sym (kind_back c.0.0 known.0 known.1) i ∷ names in
     subst (TakesKey p) (ok_is (key, r.0.1) x r.2) (subst (λ text. Took p text r.0.1) text taken, and _ _ tt'.2 tr.1, (tt'.1, tr.2))
 
-key_again : (key : Parts × Kind) (rest : List ℕ) (at : ℕ) → parts_fit key.0 ≡ true → parts_in_range key.0
+pub key_again : (key : Parts × Kind) (rest : List ℕ) (at : ℕ) → parts_fit key.0 ≡ true → parts_in_range key.0
     → (q : ℕ) × (key_at (place (key_text key ++ rest) at) ≡ Ok (key, place rest q))
 unfolding key_at
 key_again key rest at fit range =

@@ -95,7 +95,7 @@ module _ {A : Type 0} (text : A → List ℕ) (Fits : A → Type 0) (one_at : Pl
 
 -- ---- values
 
-abbrev IsValue : ℕ → Type 0
+abbrev pub IsValue : ℕ → Type 0
 IsValue value = value < 2 ^ 64
 
 value_field : Field (to_be_bytes w64) IsValue (number_at w64)
@@ -104,13 +104,13 @@ value_field = record {
   again = λ n rest at below. (at + 8, number_again w64 (2 ^ 64) wide64 n rest at below);
 }
 
-abbrev AreValues : List ℕ → Type 0
+abbrev pub AreValues : List ℕ → Type 0
 AreValues values = (1 ≤ length values) × (length values ≤ 8) × AllByRecursion IsValue values
 
-abbrev TakesValues : Place → List ℕ × Place → Type 0
+abbrev pub TakesValues : Place → List ℕ × Place → Type 0
 TakesValues p x = Took p (row_values_text x.0) x.1 × AreValues x.0
 
-values_take : (p : Place) (x : List ℕ × Place) → IsBytes p.left → values_at p ≡ Ok x → TakesValues p x
+pub values_take : (p : Place) (x : List ℕ × Place) → IsBytes p.left → values_at p ≡ Ok x → TakesValues p x
 unfolding values_at
 values_take p x fits e =
     let a = read_ok ℕ _ _ x e in
@@ -119,7 +119,7 @@ values_take p x fits e =
     let taken : Took p (a.0.0 ∷ values_text x.0) x.1 = took_then p (a.0.0 ∷ []) a.0.1 (values_text x.0) x.1 c.0 v.0 in
     (subst (λ n. Took p (n ∷ values_text x.0) x.1) (sym v.1) taken, (omega arith, omega arith, v.2))
 
-values_again : (values rest : List ℕ) (at : ℕ) → AreValues values
+pub values_again : (values rest : List ℕ) (at : ℕ) → AreValues values
     → (q : ℕ) × (values_at (place (row_values_text values ++ rest) at) ≡ Ok (values, place rest q))
 unfolding values_at
 values_again values rest at are =
@@ -128,7 +128,7 @@ values_again values rest at are =
 
 -- ---- columns
 
-abbrev Cells : Type 0
+abbrev pub Cells : Type 0
 Cells = List (Option ℕ)
 
 named_none : (k column : ℕ) (cells : Cells) → named (replicate k None ++ cells) ≡ named cells
@@ -259,7 +259,7 @@ some_columns_again (Some value ∷ cells) last rest at long are =
           ∙ ap (λ text. some_columns_at (suc (named cells)) last (place ((last + 1) ∷ text) at)) (append_assoc (to_be_bytes w64 value) others rest) ∙ is,
     )
 
-abbrev IsChange : Cells → Type 0
+abbrev pub IsChange : Cells → Type 0
 IsChange change = (length change ≡ 8) × AllByRecursion IsCell change
 
 abbrev TakesChange : Place → Cells × Place → Type 0
@@ -283,7 +283,7 @@ named_within [] = omega arith
 named_within (None ∷ cells) = let most = named_within cells in omega arith
 named_within (Some value ∷ cells) = let most = named_within cells in omega arith
 
-columns_again : (change : Cells) (rest : List ℕ) (at : ℕ) → 0 < named change → IsChange change
+pub columns_again : (change : Cells) (rest : List ℕ) (at : ℕ) → 0 < named change → IsChange change
     → (q : ℕ) × (columns_at (place (change_text change ++ rest) at) ≡ Ok (change, place rest q))
 unfolding columns_at
 columns_again change rest at some is =
@@ -304,10 +304,10 @@ pub record TakesBody (tag : ℕ) (id : RowId) (p : Place) (op : Op) (q : Place) 
   pub spelled : tag ∷ (place_text id ++ text) ≡ op_text op
   pub fits : place_fits id ≡ true → place_in_range id → OpFits op
 
-third : (tag : ℕ) → (tag == 1) ≡ false → (tag == 2) ≡ false → 0 < tag → tag ≤ 3 → tag ≡ 3
+pub third : (tag : ℕ) → (tag == 1) ≡ false → (tag == 2) ≡ false → 0 < tag → tag ≤ 3 → tag ≡ 3
 third tag one two some most = grind (arith, nat_tests)
 
-by_tag : (one two : Bool) (tag : ℕ) (id : RowId) (p : Place) (x : Op × Place) → IsBytes p.left → (tag == 1) ≡ one → (tag == 2) ≡ two → 0 < tag → tag ≤ 3
+pub by_tag : (one two : Bool) (tag : ℕ) (id : RowId) (p : Place) (x : Op × Place) → IsBytes p.left → (tag == 1) ≡ one → (tag == 2) ≡ two → 0 < tag → tag ≤ 3
     → cond one (values_at p >>= λ values. Ok (Insert id values.0, values.1)) (cond two (columns_at p >>= λ change. Ok (Update id change.0, change.1)) (Ok (Delete id, p))) ≡ Ok x
     → TakesBody tag id p x.0 x.1
 by_tag true two tag id p x fits one other some most e =

@@ -67,8 +67,9 @@ fn row_of_cells(count: u8, cells: &[u64; 8]) -> Row
     }
 }
 
+/// Reads the number of values of a row, 1 to 8, and the values.
 #[tactic(auto, unfolding(crate::specs::Reading::values_at))]
-fn values_of<'a>(cursor: Cursor<'a>) -> Result<(Row, Cursor<'a>), WsFault>
+pub fn values_of<'a>(cursor: Cursor<'a>) -> Result<(Row, Cursor<'a>), WsFault>
     ensures { Gives (λ x. (x.0, x.1)) result (values_at cursor.entry) }
 {
     let (count, after) = count_of(cursor)?;
@@ -114,8 +115,8 @@ fn columns_of<'a>(cursor: Cursor<'a>) -> Result<(Change, Cursor<'a>), WsFault>
     some_columns_of(count, after)
 }
 
-// Reads what stands behind the place of a row.
-fn op_body_of<'a>(tag: u8, id: RowId, cursor: Cursor<'a>) -> Result<(Op, Cursor<'a>), WsFault>
+/// Reads what stands behind the place of a row, in a change with this tag.
+pub fn op_body_of<'a>(tag: u8, id: RowId, cursor: Cursor<'a>) -> Result<(Op, Cursor<'a>), WsFault>
     ensures { Gives (λ x. (x.0, x.1)) result (op_body_at tag id cursor.entry) }
 {
     if tag == 1 {
@@ -187,14 +188,17 @@ pub(crate) fn ops_of<'a>(
     some_ops_of(alloc, count, after)
 }
 
-fn put_place(out: &mut ByteList, id: &RowId) -> Result<(), NoMemory>
+/// Appends the names of a row's table and of the row. Where it fails, some of it may stand there.
+pub fn put_place(out: &mut ByteList, id: &RowId) -> Result<(), NoMemory>
     ensures { OnOk result (out.new ≡ out.old ++ place_text id.now) }
 {
     put_name(out, &id.table)?;
     put_name(out, &id.row)
 }
 
-fn put_row_values(out: &mut ByteList, row: &Row) -> Result<(), NoMemory>
+/// Appends the number of a row's values, and the values. Where it fails, some of it may stand
+/// there.
+pub fn put_row_values(out: &mut ByteList, row: &Row) -> Result<(), NoMemory>
     ensures { OnOk result (out.new ≡ out.old ++ row_values_text row.now) }
 {
     let values = row.values();
@@ -266,7 +270,7 @@ fn put_op(out: &mut ByteList, op: &Op) -> Result<(), NoMemory>
 }
 
 /// Appends the number of changes, and the changes. Where it fails, some of it may stand there.
-pub(crate) fn put_all_ops(out: &mut ByteList, ops: &[Op]) -> Result<(), NoMemory>
+pub fn put_all_ops(out: &mut ByteList, ops: &[Op]) -> Result<(), NoMemory>
     requires { length ops.now ≤ MOST_OPS }
     ensures { OnOk result (out.new ≡ out.old ++ ops_text ops.now) }
 {

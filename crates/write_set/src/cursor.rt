@@ -10,7 +10,7 @@ use std::marker::Model;
 
 /// A place in the bytes.
 #[derive(Debug, Drop)]
-pub(crate) struct Cursor<'a> {
+pub struct Cursor<'a> {
     left: &'a [u8],
     at: usize,
 }
@@ -27,6 +27,7 @@ impl<'a> Model for Cursor<'a> {
 }
 
 impl<'a> Cursor<'a> {
+    /// The place behind so many bytes.
     pub fn new(bytes: &'a [u8], at: usize) -> Cursor<'a>
         requires { at ≤ length bytes.now }
         ensures { result ≡ place_in bytes.now at }
@@ -45,13 +46,14 @@ impl<'a> Cursor<'a> {
         self.at
     }
 
+    /// Whether no byte is left.
     pub fn is_at_end(&self) -> bool
         ensures { result ≡ (length self.now.left == 0) }
     {
         self.left.is_empty()
     }
 
-    /// The next `count` bytes.
+    /// The next `count` bytes, and the place behind them. `Short` where fewer are left.
     #[tactic(auto, unfolding(crate::specs::Reading::bytes_at))]
     pub fn bytes(self, count: usize) -> Result<(&'a [u8], Cursor<'a>), WsFault>
         ensures read { Gives (λ x. (x.0.now, x.1)) result (bytes_at count self.entry) }
@@ -70,6 +72,7 @@ impl<'a> Cursor<'a> {
         ))
     }
 
+    /// A number of one byte, and the place behind it.
     #[tactic(auto, unfolding(crate::specs::Reading::number_at))]
     pub fn number8(self) -> Result<(u8, Cursor<'a>), WsFault>
         ensures { Gives (λ x. (x.0, x.1)) result (number_at w8 self.entry) }
@@ -78,6 +81,7 @@ impl<'a> Cursor<'a> {
         Ok((field[0], after))
     }
 
+    /// A number of four bytes, the highest first, and the place behind it.
     #[tactic(auto, unfolding(crate::specs::Reading::number_at))]
     pub fn number32(self) -> Result<(u32, Cursor<'a>), WsFault>
         ensures { Gives (λ x. (x.0, x.1)) result (number_at w32 self.entry) }
@@ -87,6 +91,7 @@ impl<'a> Cursor<'a> {
         Ok((number, after))
     }
 
+    /// A number of eight bytes, the highest first, and the place behind it.
     #[tactic(auto, unfolding(crate::specs::Reading::number_at))]
     pub fn number64(self) -> Result<(u64, Cursor<'a>), WsFault>
         ensures { Gives (λ x. (x.0, x.1)) result (number_at w64 self.entry) }

@@ -36,8 +36,9 @@ fn key_row_of<'a>(parts: u8, cursor: Cursor<'a>) -> Result<(Option<[u8; 16]>, Cu
     Ok((Some(row), after))
 }
 
+/// Reads one key.
 #[tactic(auto, unfolding(crate::specs::Reading::key_at))]
-fn key_of<'a>(cursor: Cursor<'a>) -> Result<(Parts, Kind, Cursor<'a>), WsFault>
+pub fn key_of<'a>(cursor: Cursor<'a>) -> Result<(Parts, Kind, Cursor<'a>), WsFault>
     ensures { Gives (λ x. ((x.0, x.1), x.2)) result (key_at cursor.entry) }
 {
     let at = cursor.at();
@@ -98,10 +99,7 @@ fn some_keys_of<'a>(
 
 /// Reads the number of keys, and the keys.
 #[tactic(auto, unfolding(crate::specs::Reading::keys_at))]
-pub(crate) fn keys_of<'a>(
-    alloc: Global,
-    cursor: Cursor<'a>,
-) -> Result<(KeySet, Cursor<'a>), WsFault>
+pub fn keys_of<'a>(alloc: Global, cursor: Cursor<'a>) -> Result<(KeySet, Cursor<'a>), WsFault>
     ensures { Gives (λ x. (x.0, x.1)) result (keys_at cursor.entry) }
 {
     let at = cursor.at();
@@ -151,7 +149,7 @@ fn put_key(out: &mut ByteList, key: &(Parts, Kind)) -> Result<(), NoMemory>
 }
 
 /// Appends the number of keys, and the keys in order. Where it fails, some of it may stand there.
-pub(crate) fn put_all_keys(out: &mut ByteList, keys: &KeySet) -> Result<(), NoMemory>
+pub fn put_all_keys(out: &mut ByteList, keys: &KeySet) -> Result<(), NoMemory>
     ensures { OnOk result (out.new ≡ out.old ++ keys_text keys.now) }
 {
     let list = keys.sorted()?;

@@ -13,12 +13,13 @@ mod rules;
 mod write_set;
 mod writing;
 
+pub use changes::{op_body_of, put_all_ops, put_place, put_row_values, values_of};
+pub use cursor::Cursor;
 pub use fault::WsFault;
+pub use keys::{key_of, keys_of, put_all_keys};
 pub use laws::one_spelling;
+pub use names::{NameRole, name_of};
 pub use reading::{decode, read_keys, read_ops};
 pub use rules::{END, MOST_OPS, ROLLBACK, START, is_valid};
 pub use write_set::WriteSet;
 pub use writing::{encode, put_keys, put_ops};
-
-#[cfg(test)]
-mod tests;

@@ -13,7 +13,7 @@ use wsrep_base::{ByteList, NoMemory};
 /// What a name names, which says what letters it has and which fault it is where it is outside
 /// its form.
 #[derive(Clone, Copy, Debug)]
-pub(crate) enum NameRole {
+pub enum NameRole {
     KeyTable,
     KeyRow,
     ChangeTable,
@@ -74,12 +74,9 @@ fn padded(name: &[u8]) -> [u8; 16]
     padded
 }
 
-/// Reads a name.
+/// Reads a name: a byte from 1 to 16, and so many letters.
 #[tactic(auto, unfolding(crate::specs::Reading::name_at))]
-pub(crate) fn name_of<'a>(
-    role: NameRole,
-    cursor: Cursor<'a>,
-) -> Result<([u8; 16], Cursor<'a>), WsFault>
+pub fn name_of<'a>(role: NameRole, cursor: Cursor<'a>) -> Result<([u8; 16], Cursor<'a>), WsFault>
     ensures { Gives (λ x. (x.0, x.1)) result (name_at role cursor.entry) }
 {
     let at = cursor.at();

@@ -52,27 +52,3 @@ pub fn put_u64(out: &mut ByteList, value: u64) -> Result<(), NoMemory>
     BigEndian::write_u64(&mut field, value);
     out.extend(&field)
 }
-
-#[cfg(test)]
-mod tests {
-    use super::*;
-    use std::test::Fail;
-
-    #[test]
-    fn writes_and_reads_numbers(rt: HostRuntime) -> Result<(), Fail> {
-        let mut out = ByteList::new(rt.alloc());
-        put_u32(&mut out, 0x01020304)?;
-        put_u64(&mut out, 0x05060708090a0b0c)?;
-        assert_eq!(rt;
-            out.as_slice(),
-            [1, 2, 3, 4, 5, 6, 7, 8, 9, 10, 11, 12].as_slice()
-        );
-        assert_eq!(rt; read_u32(out.as_slice(), 0), Some(0x01020304));
-        assert_eq!(rt; read_u64(out.as_slice(), 4), Some(0x05060708090a0b0c));
-        for (at, four, eight) in [(8, true, false), (9, false, false), (13, false, false)] {
-            assert!(rt; read_u32(out.as_slice(), at).is_some() == four, "at {at}");
-            assert!(rt; read_u64(out.as_slice(), at).is_some() == eight, "at {at}");
-        }
-        Ok(())
-    }
-}

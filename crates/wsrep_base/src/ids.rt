@@ -85,25 +85,3 @@ impl StateId {
         *self.id.as_bytes()
     }
 }
-
-#[cfg(test)]
-mod tests {
-    use super::*;
-
-    #[test]
-    fn reads_state_ids(rt: HostRuntime) {
-        let one = StateId::of_bytes([0, 0, 0, 0, 0, 0, 0, 0, 0, 0, 0, 0, 0, 0, 0, 0xa1]);
-        for (text, want) in [
-            ("00000000-0000-0000-0000-0000000000a1", Some(one)),
-            ("000000000000000000000000000000A1", Some(one)),
-            ("00000000-0000-0000-0000-000000000000", None),
-            ("00000000-0000-0000-0000-0000000000", None),
-            ("", None),
-        ] {
-            assert!(rt; StateId::parse(text) == want, "{text}");
-            assert!(rt; StateId::parse_bytes(text.as_bytes()) == want, "{text}");
-        }
-        assert_eq!(rt; StateId::nil().bytes(), [0; 16]);
-        assert_eq!(rt; one.bytes()[15], 0xa1);
-    }
-}

@@ -5,7 +5,7 @@ use std::sync::ledger::{Blank, Book, Ledger, Share};
 
 /// How many steps a call took, counted for its contract alone: it has no bytes, and nothing but
 /// `tick` changes it. A caller that counts nothing passes `Blank::new(1)` to a function over a
-/// ledger and makes its `Steps` from that.
+/// ledger and makes its `Steps` from that. For certification by an index, whose cost is a clause.
 #[derive(Drop)]
 pub struct Steps<L: Ledger> {
     book: Book<L>,
@@ -39,28 +39,5 @@ impl<L: Ledger> Steps<L> {
         ensures { self.new ≡ self.old + 1 }
     {
         self.book.add(&mut self.share, 1);
-    }
-}
-
-#[cfg(test)]
-mod tests {
-    use super::*;
-    use std::marker::Brand;
-
-    // Counts two steps in a ledger of its own.
-    fn count_two<L: Ledger>(blank: Blank)
-        requires name { blank.name ≡ L.name }
-        requires parts { blank.parts ≡ L.parts }
-        requires some { 0 < blank.parts }
-    {
-        let mut steps = Steps::<L>::new(blank);
-        steps.tick();
-        steps.tick();
-    }
-
-    #[test]
-    fn counts_without_a_byte() {
-        let blank = Blank::new(1);
-        count_two::<Brand>(blank);
     }
 }

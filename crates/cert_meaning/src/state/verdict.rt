@@ -47,7 +47,7 @@ impl FoldState {
         if let Some(commit) = self.conflict(set.last_seen, &set.keys) {
             return Verdict::Conflict(commit);
         }
-        match self.held_by(trx_of(set), &set.keys) {
+        match self.held_by(&set.keys, trx_of(set)) {
             Some(fragment) => Verdict::Held(fragment),
             None => Verdict::Pass,
         }

@@ -1,6 +1,8 @@
 -- One more message is ordered.
-use Rattle.std.proofs.Common.{refl, ◌∙◌}
-use Rattle.cluster_core.proofs.DrainLaws.{sent_none, sent_more, sent_short}
+use Rattle.std.proofs.Common.{◌≡◌, refl, sym, subst, ◌∙◌, arith}
+use Rattle.cluster_core.specs.Drain.{SentFew}
+use Rattle.cluster_core.proofs.ActLaws.{err_by}
+use Rattle.cluster_core.proofs.DrainLaws.{sent_none, sent_more, sent_fails, sent_short}
 use Rattle.cluster_core.proofs.drain.order_all.Goals as goal
 
 pub loop-init : goal.loop-init
@@ -16,3 +18,11 @@ loop-preserved g c = (
   sent_more c.loop.counter (g.G.Group.order c.args.group.now) (g.G.Group.order c.loop.group) (g.G.Group.order c.order_first.new.group)
       c.args.seat.now c.loop.seat c.order_first.new.seat c.in_ok-order_first.field-0 c.loop.invariant.1 c.in_ok-order_first.ensures.ok,
 )
+
+pub returns-in_err-order_first-clause-err : goal.returns-in_err-order_first-clause-err
+returns-in_err-order_first-clause-err g c =
+    err_by _ _ c.from_residual.result c.from_residual.ensures.1 (λ e from.
+    let same : e ≡ c.in_err-order_first.field-0.0 = cc in
+    subst (SentFew c.args.count (g.G.Group.order c.args.group.now) (g.G.Group.order c.order_first.new.group) c.args.seat.now c.order_first.new.seat) (sym same)
+    (sent_fails c.loop.counter c.args.count (g.G.Group.order c.args.group.now) (g.G.Group.order c.loop.group) (g.G.Group.order c.order_first.new.group)
+    c.args.seat.now c.loop.seat c.order_first.new.seat c.in_err-order_first.field-0.0 (omega arith) c.loop.invariant.1 c.in_err-order_first.ensures.err))

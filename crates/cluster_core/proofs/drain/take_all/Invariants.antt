@@ -1,5 +1,5 @@
 use Rattle.std.proofs.Common.{◌≡◌}
-use Rattle.cluster_core.specs.Drain.{Part, take_next}
+use Rattle.cluster_core.specs.Drain.{Takes}
 use Rattle.cluster_core.proofs.drain.take_all.Given as goal
 
 -- the order stays, and so many events were taken
@@ -7,4 +7,4 @@ abbrev pub invariant-loop : goal.invariant-loop
 invariant-loop g l =
     (g.G.Group.order l.group ≡ g.G.Group.order l.fn.group)
     × (g.G.Group.faults l.group ≡ g.G.Group.faults l.fn.group)
-    × Part (g.G.Group.order l.fn.group) (take_next (g.G.Group.order l.fn.group)) l.counter l.fn.seat l.seat
+    × Takes l.counter (g.G.Group.order l.fn.group) l.fn.seat l.seat

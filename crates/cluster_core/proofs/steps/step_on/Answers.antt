@@ -1,7 +1,8 @@
--- The steps that do nothing.
-use Rattle.std.proofs.Common.{refl}
+-- The steps that may want memory, and those that do nothing.
+use Rattle.std.proofs.Common.{◌≡◌, refl}
 use Rattle.order_event.specs.declared.step.Act.TheVariants as act
-use Rattle.cluster_core.proofs.ActLaws.{acted_nothing}
+use Rattle.cluster_core.specs.declared.fault.StepFault.TheVariants as fault
+use Rattle.cluster_core.proofs.ActLaws.{acted_nothing, err_by, client_failed, certify_failed, start_failed}
 use Rattle.cluster_core.proofs.steps.step_on.Goals as goal
 
 pub returns-in-Report-clause-ok : goal.returns-in-Report-clause-ok
@@ -23,3 +24,24 @@ returns-in-Join-clause-ok g c =
 pub returns-in-Transfer-clause-ok : goal.returns-in-Transfer-clause-ok
 returns-in-Transfer-clause-ok g c =
     rw c.in-Transfer.is (acted_nothing (act.Transfer _) (g.G.Group.order c.args.group.now) c.args.seat.now c.requires.kept (λ _ _ _. refl))
+
+pub returns-in_err-client-in-Client-clause-err : goal.returns-in_err-client-in-Client-clause-err
+returns-in_err-client-in-Client-clause-err g c =
+    err_by _ _ c.from_residual.result c.from_residual.ensures.1 (λ e from.
+    let none : e ≡ fault.NoMemory = cc in
+    client_failed (g.G.Group.order c.args.group.now) c.args.seat.now c.requires.kept c.client.new.self c.in_err-client-in-Client.ensures.err
+    c.args.act.now e none _ _ c.in-Client.is c.in_err-client-in-Client.ensures.memory)
+
+pub returns-in_err-certify-in-Certify-clause-err : goal.returns-in_err-certify-in-Certify-clause-err
+returns-in_err-certify-in-Certify-clause-err g c =
+    err_by _ _ c.from_residual-in_err-certify-in-Certify.result c.from_residual-in_err-certify-in-Certify.ensures.1 (λ e from.
+    let none : e ≡ fault.NoMemory = cc in
+    certify_failed (g.G.Group.order c.args.group.now) c.args.seat.now c.requires.kept c.certify.new.self c.in_err-certify-in-Certify.ensures.err
+    c.args.act.now e none c.in-Certify.is c.in_err-certify-in-Certify.ensures.memory)
+
+pub returns-in_err-start-in-Start-clause-err : goal.returns-in_err-start-in-Start-clause-err
+returns-in_err-start-in-Start-clause-err g c =
+    err_by _ _ c.from_residual-in_err-start-in-Start.result c.from_residual-in_err-start-in-Start.ensures.1 (λ e from.
+    let none : e ≡ fault.NoMemory = cc in
+    start_failed (g.G.Group.order c.args.group.now) c.args.seat.now c.requires.kept c.start.new.self c.in_err-start-in-Start.ensures.err
+    c.args.act.now e none _ c.in-Start.is c.in_err-start-in-Start.ensures.memory)

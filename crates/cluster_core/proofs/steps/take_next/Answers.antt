@@ -1,8 +1,46 @@
 -- The event that the group gives is the next one of its order.
-use Rattle.std.proofs.Common.{sym, ◌∙◌, ap, ◌+◌}
+use Rattle.std.proofs.Common.{sym, subst, ◌∙◌, ap, ◌+◌, ◌≡◌}
+use Rattle.std.specs.Prelude.{Some, is_some, IsSome}
+use Rattle.order_event.specs.declared.step.Act.TheVariants as act
+use Rattle.order_event.specs.Spelling.{HasFewMembers}
+use Rattle.group_order.specs.Causes as cause
 use Rattle.group_order.specs.Order.{event_at}
-use Rattle.cluster_core.proofs.ActLaws.{take_acted, take_nothing}
+use Rattle.node_core.specs.Memory.{TakeWants}
+use Rattle.node_core.specs.Stands.{plain_of}
+use Rattle.cluster_core.specs.Faults.{step_fault}
+use Rattle.cluster_core.specs.Acts.{Failed}
+use Rattle.cluster_core.proofs.ActLaws.{take_acted, take_nothing, take_not_connected, take_failed, event_failed, next_event, all_at, at_any, err_any, err_by}
 use Rattle.cluster_core.proofs.steps.take_next.Goals as goal
+
+pub returns-then-not-is_connected-clause-ok : goal.returns-then-not-is_connected-clause-ok
+returns-then-not-is_connected-clause-ok g c =
+    take_not_connected (g.G.Group.order c.args.group.now) c.args.seat.now (sym c.is_connected.ensures ∙ c.if-not-is_connected.true) c.requires.kept
+
+pub returns-in_err-event-clause-err : goal.returns-in_err-event-clause-err
+returns-in_err-event-clause-err g c =
+    err_by _ _ c.from_residual.result c.from_residual.ensures.1 (λ e from.
+    let same : e ≡ step_fault c.in_err-event.field-0.0 = cc in
+    subst (Failed act.Take (g.G.Group.order c.args.group.now) (g.G.Group.order c.event.new.self) c.args.seat.now c.args.seat.now) (sym same)
+    (event_failed (g.G.Group.order c.args.group.now) (g.G.Group.order c.event.new.self) c.args.seat.now c.in_err-event.field-0.0 c.event.ensures.order
+    c.requires.kept (sym c.is_connected.ensures ∙ c.if-not-is_connected.false)
+    (subst (λ k. cause.AtNoMemory (IsSome (event_at (g.G.Group.order c.args.group.now) (k + 1))) c.in_err-event.field-0.0) c.taken.ensures
+    c.in_err-event.ensures.memory)))
+
+pub take-requires-clause-members : goal.take-requires-clause-members
+take-requires-clause-members g c =
+    all_at HasFewMembers (g.G.Group.order c.args.group.now) c.args.seat.now.node.at.taken c.in-Some.event c.requires.kept.few
+    (sym (sym c.in-Some.is ∙ c.in_ok-event.ensures.ok ∙ ap (λ k. event_at (g.G.Group.order c.args.group.now) (k + 1)) c.taken.ensures
+    ∙ next_event (g.G.Group.order c.args.group.now) c.args.seat.now.node.at.taken))
+
+pub returns-in_err-take-in-Some-clause-err : goal.returns-in_err-take-in-Some-clause-err
+returns-in_err-take-in-Some-clause-err g c =
+    let there : Some c.in-Some.event ≡ event_at (g.G.Group.order c.args.group.now) (c.args.seat.now.node.at.taken + 1) =
+    sym c.in-Some.is ∙ c.in_ok-event.ensures.ok ∙ ap (λ k. event_at (g.G.Group.order c.args.group.now) (k + 1)) c.taken.ensures in
+    err_any _ c.from_residual-in_err-take-in-Some.result (λ e.
+    take_failed (g.G.Group.order c.args.group.now) (g.G.Group.order c.event.new.self) c.args.seat.now c.take.new.self e c.event.ensures.order
+    c.in_err-take-in-Some.ensures.err c.requires.kept
+    (at_any (TakeWants (plain_of c.args.seat.now.node) × IsSome (event_at (g.G.Group.order c.args.group.now) (c.args.seat.now.node.at.taken + 1))) e
+    (c.in_err-take-in-Some.ensures.memory, sym (ap is_some there))))
 
 pub returns-in_ok-take-in-Some-clause-ok : goal.returns-in_ok-take-in-Some-clause-ok
 returns-in_ok-take-in-Some-clause-ok g c =

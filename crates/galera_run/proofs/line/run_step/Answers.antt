@@ -8,6 +8,9 @@ returns-in-Ok-clause-stands c =
       numbered = omega arith;
       within = omega arith;
       few = omega arith;
-      counted = step_counted c.args.place.now.steps c.args.opened c.args.step.now c.in-Ok.answer c.step.new.self
-          c.requires.room.counted c.if-passes_events.ensures c.in-Ok.ensures.ok c.in-Ok.ensures.cause;
+      counted = step_counted c.args.place.now.steps c.args.opened c.args.step.now c.step.new.self c.requires.room.counted
+          c.if-passes_events.ensures c.step.ensures.counts c.step.ensures.nodes c.in-Ok.ensures.events c.in-Ok.ensures.cause;
     })
+
+pub step-requires-clause-counts : goal.step-requires-clause-counts
+step-requires-clause-counts c = omega (arith, c.requires.room.counted.within)

@@ -8,4 +8,4 @@ use Rattle.cert_meaning.proofs.open_table.OpenTable.held_by.Given as goal
 -- the greatest so far with that of the transactions that are left
 abbrev pub invariant-loop-other : goal.invariant-loop-other
 invariant-loop-other l =
-    greater l.greatest (greatest_touching (left_but l.trx l.other-iterator) l.keys) ≡ greatest_touching (fragments_but l.self l.trx) l.keys
+    greater l.greatest (greatest_touching (left_but l.other_than l.other-iterator) l.keys) ≡ greatest_touching (fragments_but l.self l.other_than) l.keys

@@ -1,4 +1,8 @@
 -- The seats are those of the model's nodes at their start.
+use Rattle.std.proofs.Common.{ap, ◌∙◌, length}
+use Rattle.node_meaning.specs.Cluster.{ModelCluster}
+use Rattle.cluster_core.specs.Counted.{given}
+use Rattle.cluster_core.proofs.CountedLaws.{given_at_start, nodes_at_start}
 use Rattle.cluster_core.proofs.ActLaws.{kept_start, cluster_start}
 use Rattle.cluster_core.proofs.cluster.Cluster.new.Goals as goal
 
@@ -9,4 +13,16 @@ invariant_of-result g c =
 
 pub returns-clause-start : goal.returns-clause-start
 returns-clause-start g c =
-    cluster_start (g.G.Group.order c.args.group) c.args.nodes c.args.id.now c.in_ok-seats.seats.items c.requires.order c.in_ok-seats.ensures.nodes
+    cluster_start (g.G.Group.order c.args.group) c.args.nodes c.args.id c.in_ok-seats.seats.items c.requires.order c.in_ok-seats.ensures.nodes
+
+pub returns-clause-nodes : goal.returns-clause-nodes
+returns-clause-nodes g c =
+    ap (λ (m : ModelCluster). length m.nodes)
+    (cluster_start (g.G.Group.order c.args.group) c.args.nodes c.args.id c.in_ok-seats.seats.items c.requires.order c.in_ok-seats.ensures.nodes)
+    ∙ nodes_at_start c.args.nodes c.args.id
+
+pub returns-clause-counts : goal.returns-clause-counts
+returns-clause-counts g c =
+    ap given
+    (cluster_start (g.G.Group.order c.args.group) c.args.nodes c.args.id c.in_ok-seats.seats.items c.requires.order c.in_ok-seats.ensures.nodes)
+    ∙ given_at_start c.args.nodes c.args.id

@@ -1,9 +1,16 @@
 -- The step of the seat is the model's step.
-use Rattle.std.proofs.Common.{ap, ◌-◌}
+use Rattle.std.proofs.Common.{ap, sym, subst, refl, ◌-◌, ◌<◌, ◌^◌}
 use Rattle.cluster_core.specs.State.{ClusterState}
 use Rattle.cluster_core.specs.Acts.{cluster_of, nodes_of}
-use Rattle.cluster_core.proofs.ActLaws.{if_ok, cluster_done}
+use Rattle.cluster_core.specs.Counted.{given}
+use Rattle.cluster_core.proofs.ActLaws.{if_ok, cluster_done, cluster_failed, cluster_wanted}
+use Rattle.cluster_core.proofs.CountedLaws.{node_goes_on, given_after, nodes_after, events_after}
 use Rattle.cluster_core.proofs.cluster.Cluster.step.Goals as goal
+
+pub step_at-requires-clause-counts : goal.step_at-requires-clause-counts
+step_at-requires-clause-counts g c =
+    node_goes_on (cluster_of (g.G.Group.order c.self.inside.group) (nodes_of c.self.inside.seats.items))
+    (subst (λ m. given m < 2 ^ 63) (sym (ap (λ (v : ClusterState). v.model) c.self.view_is)) c.requires.counts) (c.from-at.result - 1)
 
 pub returns-clause-ok : goal.returns-clause-ok
 returns-clause-ok g c =
@@ -13,3 +20,33 @@ returns-clause-ok g c =
     (x, cluster_of (g.G.Group.order c.step_at.new.group) (nodes_of c.step_at.new.seats.items))
     (ap (λ (v : ClusterState). v.model) c.self.view_is) (ap (λ k. k - 1) c.from-at.ensures))
     c.step_at.ensures.ok
+
+pub returns-clause-group : goal.returns-clause-group
+returns-clause-group g c = (c.step_at.new.group, refl)
+
+pub returns-clause-err : goal.returns-clause-err
+returns-clause-err g c =
+    cluster_failed (cluster_of (g.G.Group.order c.self.inside.group) (nodes_of c.self.inside.seats.items)) c.args.self.now.model
+    (cluster_of (g.G.Group.order c.step_at.new.group) (nodes_of c.step_at.new.seats.items)) (c.from-at.result - 1) c.args.step.now c.step_at.result
+    (ap (λ (v : ClusterState). v.model) c.self.view_is) (ap (λ k. k - 1) c.from-at.ensures) c.requires.node.0 c.step_at.ensures.err
+
+pub returns-clause-memory : goal.returns-clause-memory
+returns-clause-memory g c =
+    cluster_wanted (cluster_of (g.G.Group.order c.self.inside.group) (nodes_of c.self.inside.seats.items)) c.args.self.now.model
+    (cluster_of (g.G.Group.order c.step_at.new.group) (nodes_of c.step_at.new.seats.items)) (c.from-at.result - 1) c.args.step.now c.step_at.result
+    (ap (λ (v : ClusterState). v.model) c.self.view_is) (ap (λ k. k - 1) c.from-at.ensures) c.requires.node.0 c.step_at.ensures.memory
+
+pub returns-clause-counts : goal.returns-clause-counts
+returns-clause-counts g c =
+    given_after c.args.self.now.model (cluster_of (g.G.Group.order c.step_at.new.group) (nodes_of c.step_at.new.seats.items)) c.args.step.now c.step_at.result
+    (returns-clause-ok g c) (returns-clause-err g c)
+
+pub returns-clause-nodes : goal.returns-clause-nodes
+returns-clause-nodes g c =
+    nodes_after c.args.self.now.model (cluster_of (g.G.Group.order c.step_at.new.group) (nodes_of c.step_at.new.seats.items)) c.args.step.now c.step_at.result
+    (returns-clause-ok g c) (returns-clause-err g c)
+
+pub returns-clause-events : goal.returns-clause-events
+returns-clause-events g c =
+    events_after c.args.self.now.model (cluster_of (g.G.Group.order c.step_at.new.group) (nodes_of c.step_at.new.seats.items)) c.args.step.now c.step_at.result
+    (returns-clause-ok g c)

@@ -1,15 +1,36 @@
 -- More room for work changes no look-up, and the work of a unit that was started is kept.
-use Rattle.cluster_core.proofs.SeatLaws.{unchanged, start_does, on_err}
+use Rattle.std.proofs.Common.{subst, refl}
+use Rattle.order_event.specs.declared.step.Act.TheVariants as act
+use Rattle.node_meaning.specs.Node.{ModelNode}
+use Rattle.node_meaning.specs.Steps.{node_step}
+use Rattle.node_core.specs.Memory.{StartWants}
+use Rattle.cluster_core.proofs.SeatLaws.{unchanged, then_unchanged, then_done, start_does, room_there, on_err}
 use Rattle.cluster_core.proofs.seat.Seat.start.Goals as goal
+
+pub keep-requires : goal.keep-requires
+keep-requires c =
+    let s = c.requires.seated in
+    let roomy = c.make_room.ensures.same.seated s.0 s.1 in
+    room_there s.0 c.args.self.now c.make_room.new.self c.start.new.self c.args.number _ c.in_ok-started.started c.make_room.ensures.same
+    (c.in_ok-started.ensures.ok s.0 roomy.stands) (c.in_ok-make_room.ensures.room s.0 s.1)
 
 pub returns-in_err-started-clause-err : goal.returns-in_err-started-clause-err
 returns-in_err-started-clause-err c =
     on_err c.from_residual-in_err-started.result
-    (unchanged c.args.self.now (record { node = c.start.new.self; done = c.reserve.new.self }) c.in_err-started.ensures.err c.reserve.ensures.entries.2)
+    (then_unchanged c.args.self.now c.make_room.new.self _ c.make_room.ensures.same
+    (unchanged c.make_room.new.self (record c.make_room.new.self { node = c.start.new.self }) c.in_err-started.ensures.err (λ k. refl)))
+
+pub returns-in_err-started-clause-memory : goal.returns-in_err-started-clause-memory
+returns-in_err-started-clause-memory c =
+    on_err c.from_residual-in_err-started.result (λ order s.
+    subst (λ (n : ModelNode). StartWants order n c.args.number) c.make_room.ensures.same.plain
+    (c.in_err-started.ensures.clear order (c.make_room.ensures.same.seated order s).stands))
 
 pub returns-clause-ok : goal.returns-clause-ok
 returns-clause-ok c order s =
+    let roomy = c.make_room.ensures.same.seated order s in
     rw c.keep.ensures.answer
-    (start_does order c.args.self.now (record { node = c.start.new.self; done = c.keep.new.done }) c.args.number
-    c.reserve.new.self.entries c.reserve.ensures.entries.2 s c.in_ok-started.started
-    (c.in_ok-started.ensures.ok order s.stands) (c.in_ok-started.ensures.task order s.stands) c.keep.ensures.kept)
+    (then_done order (λ n. node_step order n (act.Start c.args.number)) c.args.self.now c.make_room.new.self
+    (record { node = c.start.new.self; done = c.keep.new.done }) _ c.make_room.ensures.same
+    (start_does order c.make_room.new.self (record { node = c.start.new.self; done = c.keep.new.done }) c.args.number roomy c.in_ok-started.started
+    (c.in_ok-started.ensures.ok order roomy.stands) (c.in_ok-started.ensures.task order roomy.stands) c.keep.ensures.kept))

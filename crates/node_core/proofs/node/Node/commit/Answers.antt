@@ -8,7 +8,7 @@ use Rattle.order_event.specs.declared.event.Message.TheVariants as message
 use Rattle.write_set.specs.Spelling.{spelling}
 use Rattle.node_parts.specs.Queue.{queued}
 use Rattle.node_meaning.specs.Client.{is_pending}
-use Rattle.node_core.proofs.ClientCalls.{committed_nothing, commit_sent, sent_plain, nothing_done, some_done}
+use Rattle.node_core.proofs.ClientCalls.{committed_nothing, commit_sent, sent_plain, nothing_done, some_done, sends}
 use Rattle.node_core.proofs.Statements.{no_both}
 use Rattle.node_core.proofs.node.Node.commit.Goals.{else-is_empty-via-then-is_empty+else-sent-eq0, else-is_empty-via-else-is_empty}
 use Rattle.node_core.proofs.node.Node.commit.Goals as goal
@@ -37,3 +37,30 @@ returns-clause-ok c order st =
       | else-is_empty-via-else-is_empty w ↦ no_both c.is_empty.result (c.is_empty.ensures.1 (c.ops.ensures.value ∙ empty)) w.if-is_empty.false
     ]))
     c.progress_in_range.ensures plain refl refl refl refl refl refl st
+
+pub returns-in_err-set-clause-sends : goal.returns-in_err-set-clause-sends
+returns-in_err-set-clause-sends c =
+    let t = c.in-Some.trx.now in
+    sends _ _ t (sym c.in-Some.ensures)
+    (some_done t.ops t.sent (λ empty none. elim c.else-is_empty.branch [
+      | else-is_empty-via-then-is_empty+else-sent-eq0 w ↦ w.if-sent-eq0.false (w.sent.ensures ∙ none)
+      | else-is_empty-via-else-is_empty w ↦ no_both c.is_empty.result (c.is_empty.ensures.1 (c.ops.ensures.value ∙ empty)) w.if-is_empty.false
+    ]))
+
+pub returns-in_err-bytes-clause-sends : goal.returns-in_err-bytes-clause-sends
+returns-in_err-bytes-clause-sends c =
+    let t = c.in-Some.trx.now in
+    sends _ _ t (sym c.in-Some.ensures)
+    (some_done t.ops t.sent (λ empty none. elim c.else-is_empty.branch [
+      | else-is_empty-via-then-is_empty+else-sent-eq0 w ↦ w.if-sent-eq0.false (w.sent.ensures ∙ none)
+      | else-is_empty-via-else-is_empty w ↦ no_both c.is_empty.result (c.is_empty.ensures.1 (c.ops.ensures.value ∙ empty)) w.if-is_empty.false
+    ]))
+
+pub returns-in_err-push-clause-sends : goal.returns-in_err-push-clause-sends
+returns-in_err-push-clause-sends c =
+    let t = c.in-Some.trx.now in
+    sends _ _ t (sym c.in-Some.ensures)
+    (some_done t.ops t.sent (λ empty none. elim c.else-is_empty.branch [
+      | else-is_empty-via-then-is_empty+else-sent-eq0 w ↦ w.if-sent-eq0.false (w.sent.ensures ∙ none)
+      | else-is_empty-via-else-is_empty w ↦ no_both c.is_empty.result (c.is_empty.ensures.1 (c.ops.ensures.value ∙ empty)) w.if-is_empty.false
+    ]))

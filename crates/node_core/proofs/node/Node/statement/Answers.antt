@@ -7,5 +7,5 @@ use Rattle.node_core.proofs.node.Node.statement.Goals as goal
 pub returns-in-Some-hindrance-clause-ok : goal.returns-in-Some-hindrance-clause-ok
 returns-in-Some-hindrance-clause-ok c order st =
     refused order c.args.self.now c.args.session c.args.id.now c.args.kind c.args.change (get c.args.self.now.live c.args.session) refl
-    c.requires.running c.in-Some.met (sym c.in-Some.is ∙ c.in_ok-met.ensures) c.in-Some-hindrance.reply
+    c.requires.running c.in-Some.met (sym c.in-Some.is ∙ c.in_ok-met.ensures.met) c.in-Some-hindrance.reply
     (sym c.in-Some-hindrance.ensures) st

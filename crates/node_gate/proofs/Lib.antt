@@ -1,0 +1,10 @@
+pub mod Counts
+pub mod Histories
+pub mod Locks
+pub mod Ranks
+pub mod Stories
+pub mod Places
+pub mod Moves
+pub mod Carried
+pub mod Ends
+pub mod Turns
