@@ -12,3 +12,7 @@ pub mod ScanLemmas
 pub mod HalvesLemmas
 pub mod WholeLemmas
 pub mod PutLemmas
+pub mod CoveredLaws
+pub mod OpenLaws
+pub mod SeenLaws
+pub mod FloorLaws

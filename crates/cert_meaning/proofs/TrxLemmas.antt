@@ -6,6 +6,7 @@ use Rattle.std.specs.FinMap.{IsAntisymmetric}
 use Rattle.std.proofs.lemmas.Cmp.{nat_cmp_total, on_total}
 use Rattle.std.proofs.lemmas.Map.Lookups.{exact_pairs}
 use Rattle.std.specs.FinMap.{nat_cmp-IsAntisymmetric}
+use Rattle.finite_map.proofs.Edits.{IsKeyOrder}
 use Rattle.wsrep_base.specs.declared.ids.TrxId.{TrxId}
 use Rattle.wsrep_base.specs.Trx.{trx_cmp}
 
@@ -16,6 +17,9 @@ pub trx_exact : IsAntisymmetric trx_cmp
 trx_exact a b tied =
     let pairs = exact_pairs nat_cmp nat_cmp nat_cmp-IsAntisymmetric nat_cmp-IsAntisymmetric (a.member, a.begin) (b.member, b.begin) tied in
     λ i. record { member = (pairs i).0; begin = (pairs i).1 }
+
+pub transactions : IsKeyOrder trx_cmp
+transactions = record { total = trx_total; exact = trx_exact }
 
 -- what `==` says of two transactions
 pub trx_ties : (a b : TrxId) → (nat_eq a.member b.member && nat_eq a.begin b.begin) ≡ eq_by_cmp trx_cmp a b

@@ -2,6 +2,8 @@ pub mod State
 pub mod Search
 pub mod Verdict
 pub mod Fold
+pub mod Open
+pub mod Floor
 pub mod Roomy
 pub mod Extremes
 pub mod Whole

@@ -4,6 +4,7 @@
 mod fragments;
 mod items;
 mod judging;
+mod laws;
 mod members;
 mod open_table;
 mod parts;
@@ -14,6 +15,7 @@ mod state;
 
 pub use items::{CommitItem, CommitList, Fragment, FragmentList, JudgedList, Told};
 pub use judging::verdicts;
+pub use laws::fold_laws;
 pub use members::Standing;
 pub use parts::{MemberItem, MemberItemList, OpenItem, OpenList, StateParts};
 pub use state::FoldState;

@@ -31,7 +31,7 @@ use Rattle.undo_rows.specs.RowTable.{RowTable, Change, Changes, seen, other_owne
 use Rattle.order_event.specs.declared.event.Event.{Event}
 use Rattle.node_meaning.specs.Node.{ModelNode, locks_of}
 use Rattle.node_meaning.specs.Facts.{Facts}
-use Rattle.node_meaning.proofs.CoveredLaws.{AllCovered, all_from_rules}
+use Rattle.cert_meaning.proofs.CoveredLaws.{AllCovered, all_from_rules}
 use Rattle.node_meaning.proofs.LockLaws.{keys_at-session, keys_of_live, free-blocker}
 use Rattle.node_core.specs.Tabled.{Tabled, Owns, changes_row}
 use Rattle.node_core.proofs.Tabling.{LiveAfter, New, Old, put_live, tabled_sees}

@@ -21,12 +21,11 @@ use Rattle.row_locks.specs.declared.holder.Holder.TheVariants.{Session, Unit as 
 use Rattle.row_locks.specs.Locks.{keys_at}
 use Rattle.undo_rows.specs.RowTable.{RowTable}
 use Rattle.order_event.specs.declared.event.Event.{Event}
-use Rattle.node_meaning.proofs.CoveredLaws.{AllCovered}
+use Rattle.cert_meaning.proofs.CoveredLaws.{AllCovered, all_from_rules}
 use Rattle.node_meaning.specs.Node.{ModelNode, ApplyUnit, locks_of, rows_at}
 use Rattle.node_meaning.specs.Units.{ops_at, unit_task, named_rows}
 use Rattle.node_meaning.specs.Facts.{Facts}
 use Rattle.node_meaning.proofs.LockLaws.{keys_of_live, keys_of_unit, keys_at-session, keys_at-unit}
-use Rattle.node_meaning.proofs.CoveredLaws.{all_from_rules}
 use Rattle.node_meaning.proofs.UnitLaws.{ops_covered, places_covered, task-unit}
 use Rattle.node_core.specs.Advancing.{AreFree, results_of}
 use Rattle.node_core.specs.Tabled.{Tabled, changes_row}

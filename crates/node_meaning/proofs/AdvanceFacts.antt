@@ -6,13 +6,11 @@ use Rattle.finite_map.specs.FiniteMap.{get}
 use Rattle.row_model.specs.declared.ops.Op.{Op}
 use Rattle.row_model.specs.Rows.{ops_on}
 use Rattle.order_event.specs.declared.event.Event.{Event}
-use Rattle.order_event.specs.declared.event.Event.TheVariants.{Write, View, Report}
 use Rattle.write_set.specs.declared.write_set.WriteSet.{WriteSet}
-use Rattle.write_set.specs.Reading.{decoded}
 use Rattle.cert_meaning.specs.declared.items.CommitItem.{CommitItem}
-use Rattle.cert_meaning.specs.State.{FoldState}
-use Rattle.cert_meaning.specs.Fold.{Effect, Same, Closes, Adds, Commits, effect_of, judged_write, state_at, commit_of, commit_made, commit_written, committed_ops, ops_by, ops_written}
+use Rattle.cert_meaning.specs.Fold.{state_at, commit_of, committed_ops}
 use Rattle.cert_meaning.proofs.FoldLaws.{some_there, rows-next}
+use Rattle.cert_meaning.proofs.CoveredLaws.{no_ops, some_ops}
 use Rattle.client_trx.specs.Live.{Live}
 use Rattle.client_trx.specs.declared.status.Status.{Status}
 use Rattle.client_trx.specs.declared.status.Status.TheVariants as status
@@ -120,42 +118,6 @@ module _ (order : List Event) (n : ModelNode) (facts : Facts order n) (number : 
       let found = entry_found n.live (commits_at number) (s, t) is in (found.there, found.passes)
 
 -- ---- the rows after it
-none_made : (s : FoldState) (w : WriteSet) (effect : Effect) → commit_made s w effect ≡ None → ops_by s w effect ≡ None
-none_made s w Same is = refl
-none_made s w Closes is = refl
-none_made s w Adds is = refl
-none_made s w Commits is = cc
-
-none_written : (s : FoldState) (member : ℕ) (w : Option WriteSet) → commit_written s member w ≡ None → ops_written s member w ≡ None
-none_written s member None is = refl
-none_written s member (Some w) is = none_made s w (effect_of (judged_write s member (Some w))) is
-
--- an event that makes no commit commits no change
-pub no_ops : (s : FoldState) (e : Event) → commit_of s e ≡ None → committed_ops s e ≡ None
-unfolding commit_of committed_ops
-no_ops s (Write member body) is = none_written s member (decoded body) is
-no_ops s (View version members) is = refl
-no_ops s (Report member number) is = refl
-
-some_made : (s : FoldState) (w : WriteSet) (effect : Effect) (c : CommitItem) → commit_made s w effect ≡ Some c
-    → (ops : List Op) × (ops_by s w effect ≡ Some ops)
-some_made s w Same c is = cc
-some_made s w Closes c is = cc
-some_made s w Adds c is = cc
-some_made s w Commits c is = (_, refl)
-
-some_written : (s : FoldState) (member : ℕ) (w : Option WriteSet) (c : CommitItem) → commit_written s member w ≡ Some c
-    → (ops : List Op) × (ops_written s member w ≡ Some ops)
-some_written s member None c is = cc
-some_written s member (Some w) c is = some_made s w (effect_of (judged_write s member (Some w))) c is
-
--- and one that makes a commit commits its changes
-pub some_ops : (s : FoldState) (e : Event) (c : CommitItem) → commit_of s e ≡ Some c → (ops : List Op) × (committed_ops s e ≡ Some ops)
-unfolding commit_of committed_ops
-some_ops s (Write member body) c is = some_written s member (decoded body) c is
-some_ops s (View version members) c is = cc
-some_ops s (Report member number) c is = cc
-
 -- the rows stay where the next event makes no commit
 pub rows-no_commit : (order : List Event) (p : ℕ) → suc p ≤ length order → commit_at order (p + 1) ≡ None
     → rows_at order (p + 1) ≡ rows_at order p

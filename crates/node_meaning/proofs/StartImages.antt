@@ -9,10 +9,11 @@ use Rattle.row_model.specs.Rows.{id_of, ops_on}
 use Rattle.order_event.specs.declared.event.Event.{Event}
 use Rattle.cert_meaning.specs.declared.items.CommitItem.{CommitItem}
 use Rattle.cert_meaning.specs.Fold.{state_at, committed_ops}
+use Rattle.cert_meaning.proofs.CoveredLaws.{AllCovered, commit_covered}
 use Rattle.node_meaning.specs.Node.{ModelNode, ApplyUnit, rows_at}
 use Rattle.node_meaning.specs.Facts.{Facts, commit_at}
 use Rattle.node_meaning.proofs.AdvanceFacts.{rows-commit}
-use Rattle.node_meaning.proofs.CoveredLaws.{AllCovered, commit_covered, row_before}
+use Rattle.node_meaning.proofs.CoveredLaws.{row_before}
 
 -- the changes of a unit: its event, what that commits, that the unit's keys cover it, and the rows before it where it changes them
 pub record Images (order : List Event) (committed number : ℕ) (keys : Keys) : Type 0 where

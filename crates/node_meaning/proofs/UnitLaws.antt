@@ -15,6 +15,7 @@ use Rattle.write_set.specs.Rules.{row_parts}
 use Rattle.cert_meaning.specs.declared.items.CommitItem.{CommitItem}
 use Rattle.cert_meaning.specs.Fold.{state_at}
 use Rattle.cert_meaning.proofs.FoldLaws.{some_there, rows-next}
+use Rattle.cert_meaning.proofs.CoveredLaws.{AllCovered, commit_covered}
 use Rattle.client_trx.specs.Live.{Live}
 use Rattle.apply_unit.specs.Results.{Image}
 use Rattle.apply_unit.specs.Task.{task}
@@ -23,7 +24,7 @@ use Rattle.node_meaning.specs.Steps.{committer_of}
 use Rattle.node_meaning.specs.Facts.{Facts, commit_at}
 use Rattle.node_meaning.specs.Units.{with_id, named_rows, images_of, ops_by, ops_at, rows_before, unit_task}
 use Rattle.node_meaning.proofs.AdvanceFacts.{Applies, rows-commit, passed_there, committer_there}
-use Rattle.node_meaning.proofs.CoveredLaws.{AllCovered, commit_covered, row_before}
+use Rattle.node_meaning.proofs.CoveredLaws.{row_before}
 
 -- ---- by the number of an event
 pub ops_at-next : (order : List Event) (p : ℕ) → ops_at order (p + 1) ≡ ops_by (state_at order p) (slice_get order p)
