@@ -1,5 +1,5 @@
 ghost use Rattle.std.specs.Prelude.{◌≡◌, ◌++◌, ◌∷◌, [], is_some, unwrap_or, OnOk, OnErr};
-ghost use Rattle.finite_map.specs.FiniteMap.{empty, get, insert, remove, retain_keys};
+ghost use Rattle.finite_map.specs.FiniteMap.{empty, get, insert, len, remove, retain_keys};
 ghost use Rattle.cert_meaning.specs.State.{fragments_but};
 ghost use Rattle.cert_meaning.specs.Verdict.{greatest_touching};
 ghost use Rattle.cert_meaning.specs.Fold.{is_of};
@@ -39,6 +39,12 @@ impl OpenTable {
         OpenTable {
             open: BTreeMap::new(alloc),
         }
+    }
+
+    pub(crate) fn len(&self) -> usize
+        ensures { result ≡ len self.now }
+    {
+        self.open.len()
     }
 
     pub(crate) fn is_open(&self, trx: TrxId) -> bool

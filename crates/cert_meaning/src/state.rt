@@ -1,6 +1,7 @@
 ghost use Rattle.std.specs.Prelude.{◌≡◌, IfOk, IsOk};
 ghost use Rattle.std.specs.Option.{option_copied};
 ghost use Rattle.cert_meaning.specs.State.{no_events, commit_numbered};
+ghost use Rattle.finite_map.specs.FiniteMap.{len};
 ghost use Rattle.key_sets.specs.Keys.{touches};
 ghost use Rattle.cert_meaning.specs.Search.{commits_below, greatest_related};
 ghost use Rattle.cert_meaning.specs.Verdict.{held_by};
@@ -97,6 +98,20 @@ impl FoldState {
         ensures { result ≡ held_by self.now other_than keys.now }
     {
         self.open_trx.held_by(keys, other_than)
+    }
+
+    /// The least report of the members.
+    pub fn floor(&self) -> u64
+        ensures { result ≡ self.now.floor }
+    {
+        self.floor
+    }
+
+    /// How many transactions are open.
+    pub fn open_count(&self) -> u64
+        ensures { result ≡ len self.now.open_trx }
+    {
+        self.open_trx.len() as u64
     }
 
     fn alloc(&self) -> Global {
