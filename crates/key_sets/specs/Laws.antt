@@ -16,7 +16,8 @@ Implies {A} first second = (x y : A) → first x y ≡ true → second x y ≡ t
 
 -- the stronger of two kinds is related to what one of them is related to
 abbrev pub IsRising : (Kind → Kind → Bool) → Type 0
-IsRising relation = (k l other : Kind) → relation (stronger k l) other ≡ relation k other || relation l other
+IsRising relation = (k l other : Kind)
+    → relation (stronger k l) other ≡ relation k other || relation l other
 
 -- a union is related to what one of its parts is related to
 abbrev pub IsOfUnions : (Keys → Keys → Bool) → Type 0

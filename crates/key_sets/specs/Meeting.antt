@@ -17,7 +17,8 @@ pub record HasRow (keys : Keys) (table : Parts) (kind : Kind) : Type 0 where
   pub at : table ≡ table_of row
   pub shared : kind ≡ Shared
 
--- the set has the kind at these parts: that of its key there, or shared where it has a key of a row of that table
+-- the set has the kind at these parts: that of its key there, or shared where it has a key of a row
+-- of that table
 abbrev pub Has : Keys → Parts → Kind → Type 0
 Has keys p kind = (get keys p ≡ Some kind) ⊎ HasRow keys p kind
 
@@ -44,6 +45,7 @@ is_change (Some Shared) = false
 is_change (Some Update) = true
 is_change (Some Exclusive) = true
 
--- a set covers a row where it may change it: by a key of the row, or by an exclusive key of its table
+-- a set covers a row where it may change it: by a key of the row, or by an exclusive key of its
+-- table
 abbrev pub covers : Keys → Parts → Bool
 covers keys p = is_change (get keys p) || is_exclusive (get keys (table_of p))

@@ -58,7 +58,8 @@ impl KeySet {
     /// Adds a key. Where the set has its parts, the stronger kind stays.
     pub fn add(&mut self, parts: &Parts, kind: Kind) -> Result<(), KeyFault>
         ensures ok { OnOk result (self.new ≡ keys.with_key self.old parts.now kind) }
-        ensures full { IsErrOf result KeyFault.Full ↔ ((map.get self.old parts.now ≡ None) × (map.len self.old ≡ keys.LIMIT)) }
+        ensures full { IsErrOf result KeyFault.Full
+            ↔ ((map.get self.old parts.now ≡ None) × (map.len self.old ≡ keys.LIMIT)) }
         ensures err { OnErr result (self.new ≡ self.old) }
     {
         let old = self.kind_at(parts);
@@ -128,7 +129,8 @@ impl KeySet {
     /// The keys of both sets; at parts that both have, the stronger kind.
     pub fn union(&self, other: &KeySet) -> Result<KeySet, KeyFault>
         ensures ok { IfOk result (λ set. set ≡ keys.union self.now other.now) }
-        ensures full { IsErrOf result KeyFault.Full ↔ (keys.LIMIT < map.len (keys.union self.now other.now)) }
+        ensures full { IsErrOf result KeyFault.Full
+            ↔ (keys.LIMIT < map.len (keys.union self.now other.now)) }
     {
         if self.union_passes(other) {
             return Err(KeyFault::Full);

@@ -1,4 +1,5 @@
--- names in sixteen bytes: 1 to 16 letters, and zeros behind them; and calls whose names have this form
+-- names in sixteen bytes: 1 to 16 letters, and zeros behind them; and calls whose names have this
+-- form
 use Rattle.std.specs.Prelude.{ℕ, ◌+◌, ◌-◌, ◌==◌, Bool, true, not, ◌&&◌, ◌||◌, nat_le, List, [], ◌∷◌, ◌++◌, length, drop, replicate, Option, Some, None}
 use Rattle.std.specs.List.{take_while, prefix_len, list_all}
 use Rattle.row_model.specs.declared.row.RowId.{RowId}
@@ -27,7 +28,8 @@ padded name = name ++ replicate (16 - length name) 0
 -- a name of such letters
 unfoldable pub is_name : (ℕ → Bool) → List ℕ → Bool
 is_name test bytes =
-    not (name_len bytes == 0) && list_all test (letters bytes) && list_all (λ b. b == 0) (drop (name_len bytes) bytes)
+    not (name_len bytes == 0) && list_all test (letters bytes)
+    && list_all (λ b. b == 0) (drop (name_len bytes) bytes)
 
 -- the names of a place have their form
 abbrev pub place_fits : RowId → Bool

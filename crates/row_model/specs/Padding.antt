@@ -10,7 +10,8 @@ pub record IsPadded (count : ℕ) (cells : List ℕ) : Type 0 where
   pub zeros : drop count cells ≡ replicate (8 - count) 0
 
 -- the values are as many as they were
-pub count_again : (count : ℕ) (cells : List ℕ) → IsPadded count cells → length (take count cells) ≡ count
+pub count_again : (count : ℕ) (cells : List ℕ) → IsPadded count cells
+    → length (take count cells) ≡ count
 count_again count cells kept =
     let fits : count ≤ length cells = rw kept.cells_are kept.most in length-take-le count cells fits
 

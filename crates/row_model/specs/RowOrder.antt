@@ -24,7 +24,8 @@ row_ties a b = both_tied _ _ _ _ (texts_ties a.table b.table) (texts_ties a.row 
 
 pub row_exact : IsAntisymmetric row_cmp
 row_exact a b tied =
-    let pairs = exact_pairs (slice_cmp nat_cmp) (slice_cmp nat_cmp) exact_bytes exact_bytes (a.table, a.row) (b.table, b.row) tied in
+    let pairs = exact_pairs (slice_cmp nat_cmp) (slice_cmp nat_cmp) exact_bytes exact_bytes
+    (a.table, a.row) (b.table, b.row) tied in
     λ i. record { table = (pairs i).0; row = (pairs i).1 }
 
 abbrev pub coded_row_id : Coded RowId

@@ -3,13 +3,30 @@ ghost use Rattle.row_model.specs.Rows.{row_of, value_in, changed};
 
 use crate::ops::Change;
 use item_list::ItemList;
+use std::hash::{Hash, Hasher};
 use std::marker::Model;
 
 /// Where a row stands: the names of its table and of the row, each padded with zero bytes.
-#[derive(Clone, Copy, Debug, PartialEq, Eq, PartialOrd, Ord, Hash)]
+#[derive(Clone, Copy, Debug, PartialEq, Eq, PartialOrd, Ord)]
 pub struct RowId {
     pub table: [u8; 16],
     pub row: [u8; 16],
+}
+
+// A name is hashed as one write of sixteen bytes; the derive would write each byte by itself.
+impl Hash for RowId {
+    ghost use Rattle.std.proofs.Common.{ap};
+    ghost use Rattle.row_model.specs.Hashing.{row_writes};
+    ghost use Rattle.row_model.specs.RowOrder.{row_same};
+
+    ghost hash_input = { row_writes };
+
+    ghost respects_eq = { λ a b same. ap row_writes (row_same a b same) };
+
+    fn hash<H: Hasher>(&self, state: &mut H) {
+        state.write(&self.table);
+        state.write(&self.row);
+    }
 }
 
 /// The values of one row, 1 to 8 of them.
@@ -30,9 +47,13 @@ impl Model for Row {
     // The cells behind the values are 0, so that equal rows have equal cells.
     ghost invariant = { λ row. IsPadded row.count row.values };
 
-    ghost inverse = { λ xs. record { count = length xs; values = xs ++ replicate (8 - length xs) 0 } };
+    ghost inverse = { λ xs.
+        record { count = length xs; values = xs ++ replicate (8 - length xs) 0 } };
 
-    ghost inverse_ok = { λ row kept. λ i. record { count = count_again row.count row.values kept i; values = values_again row.count row.values kept i } };
+    ghost inverse_ok = { λ row kept. λ i. record {
+      count = count_again row.count row.values kept i;
+      values = values_again row.count row.values kept i;
+    } };
 }
 
 impl Row {
