@@ -5,7 +5,8 @@ use Rattle.wsrep_base.specs.declared.verdict.Verdict.TheVariants.{Malformed, Str
 use Rattle.wsrep_base.specs.declared.verdict.Judged.TheVariants as became
 use Rattle.order_event.specs.declared.event.Event.{Event}
 use Rattle.order_event.specs.declared.event.Event.TheVariants.{Write, View, Report}
-use Rattle.write_set.specs.Reading.{bytes_at, number_at, many_at, name_at, key_row_at, key_at, some_keys_at, keys_at, place_at, count_at, values_at, some_columns_at, columns_at, op_at, ops_at, header_at, finished, read}
+use Rattle.wsrep_base.specs.Reading.{bytes_at, number_at}
+use Rattle.write_set.specs.Reading.{many_at, name_at, key_row_at, key_at, some_keys_at, keys_at, place_at, count_at, values_at, some_columns_at, columns_at, op_at, ops_at, header_at, finished, read}
 use Rattle.cert_meaning.specs.State.{no_events}
 use Rattle.cert_meaning.specs.Fold.{judged_all, computing_folds}
 

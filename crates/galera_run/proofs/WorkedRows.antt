@@ -6,7 +6,8 @@ use Rattle.uuid.proofs.OnLiterals.{uuid_on_literals}
 use Rattle.wsrep_base.specs.StateId.{id_of}
 use Rattle.row_model.specs.Names.{is_name}
 use Rattle.write_set.specs.Spelling.{spelling}
-use Rattle.write_set.specs.Reading.{bytes_at, number_at, many_at, name_at, key_row_at, key_at, some_keys_at, keys_at, place_at, count_at, values_at, columns_at, some_columns_at, op_at, ops_at, header_at as head_at, finished, read}
+use Rattle.wsrep_base.specs.Reading.{bytes_at, number_at}
+use Rattle.write_set.specs.Reading.{many_at, name_at, key_row_at, key_at, some_keys_at, keys_at, place_at, count_at, values_at, columns_at, some_columns_at, op_at, ops_at, header_at as head_at, finished, read}
 use Rattle.cert_meaning.specs.Fold.{computing_folds}
 use Rattle.node_meaning.specs.Client.{client}
 use Rattle.node_meaning.specs.Steps.{take_step, certify_step, start_step, finish_step, advance_step, drained}

@@ -2,6 +2,10 @@ ghost use Rattle.std.specs.Prelude.{◌≡◌};
 
 use std::alloc::AllocError;
 use thiserror::Error;
+use wsrep_base::ReadFault;
+
+/// A place in the bytes of an event.
+pub(crate) type Cursor<'a> = wsrep_base::Cursor<'a, EventFault>;
 
 /// Why bytes are no event: the first fault from left to right. A number is the place of the first
 /// byte of the field at fault, counted from 0.
@@ -22,6 +26,16 @@ pub enum EventFault {
     /// Memory ran out.
     #[error("memory ran out")]
     NoMemory,
+}
+
+impl ReadFault for EventFault {
+    ghost use Rattle.order_event.specs.declared.fault.EventFault.TheVariants.{Short};
+
+    ghost short = { Short };
+
+    fn short(at: usize) -> EventFault {
+        EventFault::Short(at)
+    }
 }
 
 impl From<AllocError> for EventFault {

@@ -1,14 +1,13 @@
-ghost use Rattle.std.specs.Prelude.{◌≡◌, ℕ, ◌≤◌, length, None, IfOk, Ok};
-ghost use Rattle.std.specs.Int.{w32, w64};
+ghost use Rattle.std.specs.Prelude.{◌≡◌, None, IfOk, Ok};
+ghost use Rattle.wsrep_base.specs.Reading.{Reads};
 ghost use Rattle.order_event.specs.declared.event.Event.{Event};
 ghost use Rattle.order_event.specs.Spelling.{is_above, spelling, HasSpelling, FitsTypes};
-ghost use Rattle.order_event.specs.Reading.{Gives, field_at, member_at, members_at, write_at, view_at, report_at, event_at, read};
+ghost use Rattle.order_event.specs.Reading.{Gives, member_at, members_at, write_at, view_at, report_at, event_at, read};
 
 use crate::event::{Event, MemberList, REPORT_TAG, VIEW_TAG, WRITE_TAG};
-use crate::fault::EventFault;
+use crate::fault::{Cursor, EventFault};
 use bytes::Bytes;
 use std::alloc::Global;
-use wsrep_base::{read_u32, read_u64};
 
 /// The event that the bytes spell, all of them.
 pub fn decode_event(alloc: Global, bytes: &[u8]) -> Result<Event, EventFault>
@@ -16,105 +15,101 @@ pub fn decode_event(alloc: Global, bytes: &[u8]) -> Result<Event, EventFault>
     ensures found { IfOk result (λ e. HasSpelling e × (bytes.now ≡ spelling e)) }
     // What is spelled so is read, unless memory runs out.
     ensures only { (e : Event) → FitsTypes e → HasSpelling e → bytes.now ≡ spelling e
-        → Gives result (Ok e) }
+        → Gives (λ x. x) result (Ok e) }
     // A fault is the first one.
-    ensures exact { Gives result (read bytes.now) }
+    ensures exact { Gives (λ e. e) result (read bytes.now) }
 {
     whole(alloc, bytes)
 }
 
 #[tactic(auto, unfolding(crate::specs::Reading::read))]
 fn whole(alloc: Global, bytes: &[u8]) -> Result<Event, EventFault>
-    ensures { Gives result (read bytes.now) }
+    ensures { Gives (λ e. e) result (read bytes.now) }
 {
-    let (event, end) = front(alloc, bytes)?;
-    if end < bytes.len() {
-        return Err(EventFault::Trailing(end));
+    let (event, rest) = front(alloc, Cursor::new(bytes, 0))?;
+    if !rest.is_at_end() {
+        return Err(EventFault::Trailing(rest.at()));
     }
     Ok(event)
 }
 
 // The event at the front, and the place behind it.
 #[tactic(auto, unfolding(crate::specs::Reading::event_at))]
-fn front(alloc: Global, bytes: &[u8]) -> Result<(Event, usize), EventFault>
-    ensures { Gives result (event_at bytes.now) }
+fn front<'a>(alloc: Global, cursor: Cursor<'a>) -> Result<(Event, Cursor<'a>), EventFault>
+    ensures { Gives (λ x. (x.0, x.1)) result (event_at cursor.entry) }
 {
-    match bytes {
-        [] => Err(EventFault::Short(0)),
-        [WRITE_TAG, ..] => write_set(alloc, bytes, 1),
-        [VIEW_TAG, ..] => view(alloc, bytes, 1),
-        [REPORT_TAG, ..] => report(bytes, 1),
-        [_, ..] => Err(EventFault::BadTag),
+    let (tag, rest) = cursor.number8()?;
+    match tag {
+        WRITE_TAG => write_set(alloc, rest),
+        VIEW_TAG => view(alloc, rest),
+        REPORT_TAG => report(rest),
+        _ => Err(EventFault::BadTag),
     }
 }
 
-#[tactic(auto, unfolding(crate::specs::Reading::write_at, crate::specs::Reading::body_at))]
-fn write_set(alloc: Global, bytes: &[u8], at: usize) -> Result<(Event, usize), EventFault>
-    ensures { Gives result (write_at bytes.now at) }
+#[tactic(auto, unfolding(crate::specs::Reading::write_at))]
+fn write_set<'a>(alloc: Global, cursor: Cursor<'a>) -> Result<(Event, Cursor<'a>), EventFault>
+    ensures { Gives (λ x. (x.0, x.1)) result (write_at cursor.entry) }
 {
-    let (member, at) = u32_field(bytes, at)?;
-    let (count, at) = u32_field(bytes, at)?;
-    let count = count as usize;
-    if at + count > bytes.len() {
-        return Err(EventFault::Short(at));
-    }
-    let rest = &bytes[at..];
-    let body = Bytes::copy_from_slice(alloc, &rest[..count])?;
-    Ok((Event::Write { member, body }, at + count))
+    let (member, rest) = cursor.number32()?;
+    let (count, rest) = rest.number32()?;
+    let (body, rest) = rest.bytes(count as usize)?;
+    let body = Bytes::copy_from_slice(alloc, body)?;
+    Ok((Event::Write { member, body }, rest))
 }
 
 #[tactic(auto, unfolding(crate::specs::Reading::view_at))]
-fn view(alloc: Global, bytes: &[u8], at: usize) -> Result<(Event, usize), EventFault>
-    ensures { Gives result (view_at bytes.now at) }
+fn view<'a>(alloc: Global, cursor: Cursor<'a>) -> Result<(Event, Cursor<'a>), EventFault>
+    ensures { Gives (λ x. (x.0, x.1)) result (view_at cursor.entry) }
 {
-    let (version, at) = u32_field(bytes, at)?;
-    let (count, at) = u32_field(bytes, at)?;
-    let (members, at) = members(alloc, bytes, count, at)?;
-    Ok((Event::View { version, members }, at))
+    let (version, rest) = cursor.number32()?;
+    let (count, rest) = rest.number32()?;
+    let (members, rest) = members(alloc, count, rest)?;
+    Ok((Event::View { version, members }, rest))
 }
 
 #[tactic(auto, unfolding(crate::specs::Reading::report_at))]
-fn report(bytes: &[u8], at: usize) -> Result<(Event, usize), EventFault>
-    ensures { result ≡ report_at bytes.now at }
+fn report<'a>(cursor: Cursor<'a>) -> Result<(Event, Cursor<'a>), EventFault>
+    ensures { Gives (λ x. (x.0, x.1)) result (report_at cursor.entry) }
 {
-    let (member, at) = u32_field(bytes, at)?;
-    let (number, at) = u64_field(bytes, at)?;
-    Ok((Event::Report { member, number }, at))
+    let (member, rest) = cursor.number32()?;
+    let (number, rest) = rest.number64()?;
+    Ok((Event::Report { member, number }, rest))
 }
 
 // So many members, each above the one before it.
-fn members(
+fn members<'a>(
     alloc: Global,
-    bytes: &[u8],
     count: u32,
-    start: usize,
-) -> Result<(MemberList, usize), EventFault>
-    ensures { Gives result (members_at count bytes.now None start) }
+    cursor: Cursor<'a>,
+) -> Result<(MemberList, Cursor<'a>), EventFault>
+    ensures { Gives (λ x. (x.0, x.1)) result (members_at count None cursor.entry) }
 {
     let mut members = MemberList::new(alloc);
     let mut before = None;
-    let mut at = start;
+    let mut rest = cursor;
     for _ in 0..count {
-        let (member, after) = match one_member(bytes, before, at) {
+        let (member, after) = match one_member(before, rest) {
             Ok(read) => read,
             Err(fault) => return Err(fault),
         };
         members.push(member)?;
         before = Some(member);
-        at = after;
+        rest = after;
     }
-    Ok((members, at))
+    Ok((members, rest))
 }
 
 #[tactic(auto, unfolding(crate::specs::Reading::member_at))]
-fn one_member(bytes: &[u8], before: Option<u32>, at: usize) -> Result<(u32, usize), EventFault>
-    ensures { result ≡ member_at bytes.now before at }
+fn one_member<'a>(before: Option<u32>, cursor: Cursor<'a>) -> Result<(u32, Cursor<'a>), EventFault>
+    ensures { Reads (λ x. (x.0, x.1)) result (member_at before cursor.entry) }
 {
-    let (member, after) = u32_field(bytes, at)?;
+    let at = cursor.at();
+    let (member, rest) = cursor.number32()?;
     if !rises(before, member) {
         return Err(EventFault::NotCanonical(at));
     }
-    Ok((member, after))
+    Ok((member, rest))
 }
 
 fn rises(before: Option<u32>, member: u32) -> bool
@@ -123,29 +118,5 @@ fn rises(before: Option<u32>, member: u32) -> bool
     match before {
         None => true,
         Some(before) => before < member,
-    }
-}
-
-// A number of four bytes, and the place behind it.
-#[tactic(auto, unfolding(crate::specs::Reading::field_at))]
-fn u32_field(bytes: &[u8], at: usize) -> Result<(u32, usize), EventFault>
-    ensures field { result ≡ field_at w32 bytes.now at }
-    ensures within { IfOk result (λ read. read.1 ≤ length bytes.now) }
-{
-    match read_u32(bytes, at) {
-        Some(number) => Ok((number, at + 4)),
-        None => Err(EventFault::Short(at)),
-    }
-}
-
-// A number of eight bytes, and the place behind it.
-#[tactic(auto, unfolding(crate::specs::Reading::field_at))]
-fn u64_field(bytes: &[u8], at: usize) -> Result<(u64, usize), EventFault>
-    ensures field { result ≡ field_at w64 bytes.now at }
-    ensures within { IfOk result (λ read. read.1 ≤ length bytes.now) }
-{
-    match read_u64(bytes, at) {
-        Some(number) => Ok((number, at + 8)),
-        None => Err(EventFault::Short(at)),
     }
 }

@@ -9,7 +9,8 @@ use Rattle.order_event.specs.declared.step.Act.{Act}
 use Rattle.order_event.specs.declared.step.Act.TheVariants as act
 use Rattle.order_event.specs.declared.step.Answer.{Answer}
 use Rattle.write_set.specs.Spelling.{spelling}
-use Rattle.write_set.specs.Reading.{bytes_at, number_at, many_at, name_at, key_row_at, key_at, some_keys_at, keys_at, place_at, count_at, values_at, columns_at, some_columns_at, op_at, ops_at, header_at, finished, read}
+use Rattle.wsrep_base.specs.Reading.{bytes_at, number_at}
+use Rattle.write_set.specs.Reading.{many_at, name_at, key_row_at, key_at, some_keys_at, keys_at, place_at, count_at, values_at, columns_at, some_columns_at, op_at, ops_at, header_at, finished, read}
 use Rattle.node_meaning.specs.Client.{client}
 use Rattle.node_meaning.specs.Steps.{take_step, certify_step, start_step, finish_step, advance_step, drained}
 use Rattle.node_meaning.specs.Cluster.{start_cluster, cluster_step, run}

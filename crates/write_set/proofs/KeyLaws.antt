@@ -6,6 +6,7 @@ use Rattle.std.proofs.lemmas.Bool.{eqb-true}
 use Rattle.key_sets.specs.declared.kind.Kind.{Kind}
 use Rattle.key_sets.specs.declared.kind.Kind.TheVariants as kind
 use Rattle.key_sets.specs.declared.parts.Parts.{Parts}
+use Rattle.write_set.specs.declared.fault.WsFault.TheVariants.{Short}
 use Rattle.write_set.specs.declared.names.NameRole.TheVariants as role
 use Rattle.write_set.specs.Names.{is_name, is_table_letter}
 use Rattle.write_set.specs.Rules.{row_fits, parts_fit, parts_in_range}
@@ -14,7 +15,7 @@ use Rattle.write_set.specs.Place.{Place}
 use Rattle.write_set.specs.Reading.{◌>>=◌, name_at, kind_of_byte, key_row_at, key_at, is_above, some_keys_at}
 use Rattle.write_set.proofs.RulesOf.{both, and}
 use Rattle.write_set.proofs.Bounds.{is_not, within}
-use Rattle.write_set.proofs.Fields.{IsBytes, read_ok, passed, ok_is, place, Took, took_none, took_then, byte_takes, byte_again}
+use Rattle.wsrep_base.proofs.Fields.{IsBytes, read_ok, passed, ok_is, place, Took, took_none, took_then, byte_takes, byte_again}
 use Rattle.write_set.proofs.NameLaws.{name_takes, name_again}
 
 -- ---- one key
@@ -79,8 +80,8 @@ key_takes p x fits e =
     let d = passed _ _ _ x c.2 in
     let t = read_ok (List ℕ) _ _ x d.1 in
     let r = read_ok (Option (List ℕ)) _ _ x t.2 in
-    let ta = byte_takes p a.0 fits a.1 in
-    let tc = byte_takes a.0.1 c.0 ta.fits c.1 in
+    let ta = byte_takes Short p a.0 fits a.1 in
+    let tc = byte_takes Short a.0.1 c.0 ta.fits c.1 in
     let tt' = name_takes role.KeyTable c.0.1 t.0 tc.fits t.1 in
     let tr = row_takes a.0.0 t.0.1 r.0 tt'.0.fits (is_not (a.0.0 == 1 || a.0.0 == 2) b.0) r.1 in
     let known = within 3 c.0.0 d.0 in
@@ -105,9 +106,9 @@ key_again key rest at fit range =
     let r = row_again key.0.row rest t.0 f.1 range.1 in
     let is : key_at (place (parts ∷ kind ∷ (name ++ (row ++ rest))) at) ≡ Ok (key, place rest r.0) =
     rw (
-      byte_again parts (kind ∷ (name ++ (row ++ rest))) at,
+      byte_again Short parts (kind ∷ (name ++ (row ++ rest))) at,
       known_parts key.0.row,
-      byte_again kind (name ++ (row ++ rest)) (at + 1),
+      byte_again Short kind (name ++ (row ++ rest)) (at + 1),
       known_kind key.1,
       t.1,
       r.1,

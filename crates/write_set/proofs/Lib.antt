@@ -2,7 +2,6 @@ pub mod Steps
 pub mod Loops
 pub mod RulesOf
 pub mod Puts
-pub mod Fields
 pub mod NameLaws
 pub mod Bounds
 pub mod KeyLaws

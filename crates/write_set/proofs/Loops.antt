@@ -15,17 +15,8 @@ use Rattle.write_set.specs.declared.fault.WsFault.{WsFault}
 use Rattle.write_set.specs.declared.fault.WsFault.TheVariants.{NotCanonical, BadChange}
 use Rattle.write_set.specs.Place.{Place}
 use Rattle.write_set.specs.Reading.{◌>>=◌, Read, Fails, number_at, many_at, some_columns_at, key_at, is_above, some_keys_at, with_read}
+use Rattle.wsrep_base.proofs.Fields.{with_front, regroup}
 use Rattle.write_set.proofs.Steps.{fails_along}
-
--- what was read before, and what is still read
-abbrev pub with_front : {A : Type 0} → List A → Read (List A) → Read (List A)
-with_front front (Ok more) = Ok (front ++ more.0, more.1)
-with_front front (Err fault) = Err fault
-
-regroup : {A : Type 0} (front : List A) (x : A) (more : Read (List A))
-    → with_front front (more >>= λ others. Ok (x ∷ others.0, others.1)) ≡ with_front (front ++ x ∷ []) more
-regroup front x (Ok more) = ap (λ xs. Ok (xs, more.1)) (sym (append_assoc front (x ∷ []) more.0))
-regroup front x (Err fault) = refl
 
 pub goes_on : {A : Type 0} (one_at : Place → Read A) (front : List A) (count i : ℕ) (p : Place) (x : A) (after : Place) (total : Read (List A))
     → i < count → one_at p ≡ Ok (x, after) → with_front front (many_at one_at (count - i) p) ≡ total

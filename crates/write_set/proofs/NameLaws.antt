@@ -6,6 +6,7 @@ use Rattle.std.proofs.lemmas.Bool.Decides.{nat_tests}
 use Rattle.std.proofs.lemmas.List.{take_at, drop_at, take-append-drop, length-append, length-take-le, length-drop, length-replicate}
 use Rattle.std.proofs.lemmas.List.Sums.{prefix_len-le-length}
 use Rattle.std.proofs.lemmas.Iterator.Adapters.{position_from-zero}
+use Rattle.write_set.specs.declared.fault.WsFault.TheVariants.{Short}
 use Rattle.write_set.specs.declared.fault.WsFault.{WsFault}
 use Rattle.write_set.specs.declared.names.NameRole.{NameRole}
 use Rattle.write_set.specs.declared.names.NameRole.TheVariants as role
@@ -15,7 +16,7 @@ use Rattle.write_set.specs.Place.{Place}
 use Rattle.write_set.specs.Reading.{◌>>=◌, bad_letter, fault_of, name_at}
 use Rattle.write_set.proofs.RulesOf.{both, and}
 use Rattle.write_set.proofs.Bounds.{is_no, positive, some_is, within, is_within}
-use Rattle.write_set.proofs.Fields.{IsBytes, read_ok, passed, ok_is, place, Took, took_then, bytes_take, bytes_again, byte_takes, byte_again}
+use Rattle.wsrep_base.proofs.Fields.{IsBytes, read_ok, passed, ok_is, place, Took, took_then, bytes_take, bytes_again, byte_takes, byte_again}
 
 abbrev is_some_byte : ℕ → Bool
 is_some_byte b = not (b == 0)
@@ -151,8 +152,8 @@ name_takes r p x fits e =
     let d = letters_pass (fault_of r) a.0.1.at (position (λ b. not (admits r b)) c.0.0) (λ good. Ok (padded c.0.0, c.0.1)) x c.2 in
     let count = a.0.0 in
     let name = c.0.0 in
-    let front = byte_takes p a.0 fits a.1 in
-    let back = bytes_take count a.0.1 c.0 front.fits c.1 in
+    let front = byte_takes Short p a.0 fits a.1 in
+    let back = bytes_take Short count a.0.1 c.0 front.fits c.1 in
     let few = within 16 count b.0 in
     let len : length name ≡ count = back.1 in
     let is = padded_is r name (omega arith) (omega arith) (no_bad (admits r) name d.0) in
@@ -171,5 +172,5 @@ name_again r name rest at long h =
     let fits : (count == 0 || nat_lt 16 count) ≡ false = is_within 16 count n.some n.most in
     let good : position (λ b. not (admits r b)) front ≡ None = all_good (admits r) front n.good in
     let is : name_at r (place (name_text name ++ rest) at) ≡ Ok (padded front, place rest q) =
-    rw (byte_again count (front ++ rest) at, fits, bytes_again count front rest (at + 1) refl, good) refl in
+    rw (byte_again Short count (front ++ rest) at, fits, bytes_again Short count front rest (at + 1) refl, good) refl in
     (q, is ∙ ap (λ whole. Ok (whole, place rest q)) n.whole)

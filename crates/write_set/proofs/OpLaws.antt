@@ -9,6 +9,7 @@ use Rattle.std.proofs.lemmas.List.{append-nil, length-append, length-replicate}
 use Rattle.row_model.specs.declared.row.RowId.{RowId}
 use Rattle.row_model.specs.declared.ops.Op.{Op}
 use Rattle.row_model.specs.declared.ops.Op.TheVariants.{Insert, Update, Delete}
+use Rattle.write_set.specs.declared.fault.WsFault.TheVariants.{Short}
 use Rattle.write_set.specs.declared.names.NameRole.TheVariants as role
 use Rattle.write_set.specs.Names.{is_name, is_table_letter, is_row_letter}
 use Rattle.write_set.specs.Rules.{place_fits, op_fits, place_in_range, IsCell, OpInRange}
@@ -17,7 +18,7 @@ use Rattle.write_set.specs.Place.{Place}
 use Rattle.write_set.specs.Reading.{◌>>=◌, Read, number_at, many_at, place_at, count_at, values_at, some_columns_at, columns_at, op_at}
 use Rattle.write_set.proofs.RulesOf.{both, and}
 use Rattle.write_set.proofs.Bounds.{is_no, positive, some_is, within, is_within}
-use Rattle.write_set.proofs.Fields.{IsBytes, read_ok, passed, ok_is, place, Took, took_none, took_then, number_takes, number_again, wide64, byte_takes, byte_again}
+use Rattle.wsrep_base.proofs.Fields.{IsBytes, read_ok, passed, ok_is, place, Took, took_none, took_then, number_takes, number_again, wide64, byte_takes, byte_again}
 use Rattle.write_set.proofs.NameLaws.{name_takes, name_again}
 
 -- ---- the place of a row
@@ -53,13 +54,13 @@ unfolding count_at
 count_takes p x fits e =
     let a = read_ok ℕ _ _ x e in
     let b = passed _ _ _ x a.2 in
-    let t = byte_takes p a.0 fits a.1 in
+    let t = byte_takes Short p a.0 fits a.1 in
     let few = within 8 a.0.0 b.0 in
     subst (λ (y : ℕ × Place). Took p (y.0 ∷ []) y.1 × (0 < y.0) × (y.0 ≤ 8)) (ok_is a.0 x b.1) (t, few.0, few.1)
 
 count_again : (n : ℕ) (rest : List ℕ) (at : ℕ) → 0 < n → n ≤ 8 → count_at (place (n ∷ rest) at) ≡ Ok (n, place rest (at + 1))
 unfolding count_at
-count_again n rest at some most = rw (byte_again n rest at, is_within 8 n some most) refl
+count_again n rest at some most = rw (byte_again Short n rest at, is_within 8 n some most) refl
 
 -- ---- several values, one behind the other
 
@@ -100,8 +101,8 @@ IsValue value = value < 2 ^ 64
 
 value_field : Field (to_be_bytes w64) IsValue (number_at w64)
 value_field = record {
-  takes = λ p x fits e. number_takes w64 (2 ^ 64) wide64 p x fits e;
-  again = λ n rest at below. (at + 8, number_again w64 (2 ^ 64) wide64 n rest at below);
+  takes = λ p x fits e. number_takes Short w64 (2 ^ 64) wide64 p x fits e;
+  again = λ n rest at below. (at + 8, number_again Short w64 (2 ^ 64) wide64 n rest at below);
 }
 
 abbrev pub AreValues : List ℕ → Type 0
@@ -183,8 +184,8 @@ some_columns_take (suc n) last p x most fits e =
     let gap = column - (last + 1) in
     let few = within 8 column b.0 in
     let above : last < column = leb-false column last c.0 in
-    let ta = byte_takes p a.0 fits a.1 in
-    let td = number_takes w64 (2 ^ 64) wide64 a.0.1 d.0 ta.fits d.1 in
+    let ta = byte_takes Short p a.0 fits a.1 in
+    let td = number_takes Short w64 (2 ^ 64) wide64 a.0.1 d.0 ta.fits d.1 in
     let rec = some_columns_take n column d.0.1 r.0 few.1 td.0.fits r.1 in
     let here : Cells = Some value ∷ r.0.0 in
     let text : columns_text (last + 1) (replicate gap None ++ here) ≡ column ∷ (to_be_bytes w64 value ++ columns_text (column + 1) r.0.0) =
@@ -245,7 +246,7 @@ some_columns_again (None ∷ cells) last rest at long are =
     (r.0, skipped (named cells) last (last + 1) (place (columns_text (last + 1 + 1) cells ++ rest) at) (cells, place rest r.0) refl (omega arith) r.1)
 some_columns_again (Some value ∷ cells) last rest at long are =
     let others = columns_text (last + 1 + 1) cells in
-    let v = number_again w64 (2 ^ 64) wide64 value (others ++ rest) (at + 1) are.0 in
+    let v = number_again Short w64 (2 ^ 64) wide64 value (others ++ rest) (at + 1) are.0 in
     let r = some_columns_again cells (last + 1) rest (at + 1 + 8) (omega arith) are.1 in
     let fits : (last + 1 == 0 || nat_lt 8 (last + 1)) ≡ false = is_within 8 (last + 1) (omega arith) (omega arith) in
     let rises : nat_le (last + 1) last ≡ false = lt-leb (last + 1) last (omega arith) in
@@ -253,7 +254,7 @@ some_columns_again (Some value ∷ cells) last rest at long are =
     let count : 1 + named cells ≡ suc (named cells) = omega arith in
     let start = place ((last + 1) ∷ (to_be_bytes w64 value ++ (others ++ rest))) at in
     let is : some_columns_at (suc (named cells)) last start ≡ Ok (Some value ∷ cells, place rest r.0) =
-    rw (byte_again (last + 1) (to_be_bytes w64 value ++ (others ++ rest)) at, fits, rises, v, r.1, none) refl in (
+    rw (byte_again Short (last + 1) (to_be_bytes w64 value ++ (others ++ rest)) at, fits, rises, v, r.1, none) refl in (
       r.0,
       ap (λ n. some_columns_at n last (place ((last + 1) ∷ (to_be_bytes w64 value ++ others) ++ rest) at)) count
           ∙ ap (λ text. some_columns_at (suc (named cells)) last (place ((last + 1) ∷ text) at)) (append_assoc (to_be_bytes w64 value) others rest) ∙ is,
@@ -347,7 +348,7 @@ op_takes p x fits e =
     let c = read_ok RowId _ _ x b.1 in
     let tag = a.0.0 in
     let known = within 3 tag b.0 in
-    let ta = byte_takes p a.0 fits a.1 in
+    let ta = byte_takes Short p a.0 fits a.1 in
     let tc = place_takes a.0.1 c.0 ta.fits c.1 in
     let body = by_tag (tag == 1) (tag == 2) tag c.0.0 c.0.1 x tc.0.fits refl refl known.0 known.1 c.2 in
     let taken : Took p (tag ∷ (place_text c.0.0 ++ body.text)) x.1 =
@@ -361,7 +362,7 @@ op_again (Insert id values) rest at fits =
     let c = place_again id (body ++ rest) (at + 1) fits.0 fits.1.0 in
     let v = values_again values rest c.0 (fits.1.1, fits.1.2, fits.1.3) in
     let is : op_at (place (1 ∷ (place_text id ++ (body ++ rest))) at) ≡ Ok (Insert id values, place rest v.0) =
-    rw (byte_again 1 (place_text id ++ (body ++ rest)) at, c.1, v.1) refl in
+    rw (byte_again Short 1 (place_text id ++ (body ++ rest)) at, c.1, v.1) refl in
     (v.0, ap (λ text. op_at (place (1 ∷ text) at)) (append_assoc (place_text id) body rest) ∙ is)
 op_again (Update id change) rest at fits =
     let body = change_text change in
@@ -369,11 +370,11 @@ op_again (Update id change) rest at fits =
     let c = place_again id (body ++ rest) (at + 1) f.0 fits.1.0 in
     let v = columns_again change rest c.0 (positive (named change) (is_no (named change == 0) f.1)) (fits.1.1, fits.1.2) in
     let is : op_at (place (2 ∷ (place_text id ++ (body ++ rest))) at) ≡ Ok (Update id change, place rest v.0) =
-    rw (byte_again 2 (place_text id ++ (body ++ rest)) at, c.1, v.1) refl in
+    rw (byte_again Short 2 (place_text id ++ (body ++ rest)) at, c.1, v.1) refl in
     (v.0, ap (λ text. op_at (place (2 ∷ text) at)) (append_assoc (place_text id) body rest) ∙ is)
 op_again (Delete id) rest at fits =
     let c = place_again id rest (at + 1) fits.0 fits.1 in
-    (c.0, rw (byte_again 3 (place_text id ++ rest) at, c.1) refl)
+    (c.0, rw (byte_again Short 3 (place_text id ++ rest) at, c.1) refl)
 
 pub op_field : Field op_text OpFits op_at
 op_field = record { takes = op_takes; again = op_again }

@@ -5,6 +5,7 @@ use Rattle.std.specs.List.{list_all}
 use Rattle.std.proofs.lemmas.List.{append_cancel_left, drop-drop, drop_at, length-append, length-drop}
 use Rattle.key_sets.specs.Keys.{Keys}
 use Rattle.row_model.specs.declared.ops.Op.{Op}
+use Rattle.write_set.specs.declared.rules.TheConstants.{MOST_OPS}
 use Rattle.write_set.specs.declared.fault.WsFault.{WsFault}
 use Rattle.write_set.specs.Laws.{StandsBetween, AreKeys, AreOps, with_rest}
 use Rattle.write_set.specs.Rules.{KeysInRange, OpsInRange, op_fits}
@@ -13,7 +14,7 @@ use Rattle.write_set.specs.Place.{Place, place_in}
 use Rattle.write_set.specs.Reading.{Read, Gives, behind, keys_at, ops_at}
 use Rattle.write_set.proofs.RulesOf.{both, and}
 use Rattle.write_set.proofs.Steps.{fails_along}
-use Rattle.write_set.proofs.Fields.{IsBytes, IsBytes-drop, read_ok, ok_is, place, Took}
+use Rattle.wsrep_base.proofs.Fields.{IsBytes, IsBytes-drop, read_ok, ok_is, place, Took}
 use Rattle.write_set.proofs.SetLaws.{keys_take, keys_again}
 use Rattle.write_set.proofs.WholeLaws.{all_fit, each_fits, ops_take, ops_again}
 
@@ -92,9 +93,9 @@ keys_only = part_only AreKeys KeysInRange keys_text keys_at keys_part
 
 ops_part : Part AreOps OpsInRange ops_text (ops_at false false)
 ops_part = record {
-  takes = λ p x fits e. let t = ops_take false false p x fits e in (t.0, and (nat_le (length x.0) 8192) (list_all op_fits x.0) t.2 (all_fit x.0 t.3));
+  takes = λ p x fits e. let t = ops_take false false p x fits e in (t.0, and (nat_le (length x.0) MOST_OPS) (list_all op_fits x.0) t.2 (all_fit x.0 t.3));
   again = λ ops rest at range are.
-      let f = both (nat_le (length ops) 8192) (list_all op_fits ops) are in ops_again false false ops rest at refl f.0 (each_fits ops f.1 range);
+      let f = both (nat_le (length ops) MOST_OPS) (list_all op_fits ops) are in ops_again false false ops rest at refl f.0 (each_fits ops f.1 range);
 }
 
 pub ops_found : (bytes : List ℕ) (at : ℕ) → IsBytes bytes → at ≤ length bytes → (result : Result (List Op × ℕ) WsFault)

@@ -4,6 +4,8 @@ use Rattle.std.specs.Prelude.{◌&&◌, nat_le, is_none}
 use Rattle.std.specs.List.{list_all}
 use Rattle.std.proofs.lemmas.Bool.{leb-true}
 use Rattle.finite_map.specs.FiniteMap.{len}
+use Rattle.key_sets.specs.Keys.{LIMIT}
+use Rattle.write_set.specs.declared.rules.TheConstants.{MOST_OPS}
 use Rattle.write_set.specs.declared.write_set.WriteSet.{WriteSet}
 use Rattle.write_set.specs.Rules.{flags_fit, rollback_is_bare, keys_fit, op_fits, uncovered_from, obeys}
 
@@ -20,9 +22,9 @@ and false b p q = absurd cc
 pub record Rules (w : WriteSet) : Type 0 where
   pub flags : flags_fit w.flags w.fragment ≡ true
   pub bare : rollback_is_bare w.flags (len w.keys) (length w.ops) ≡ true
-  pub few_keys : nat_le (len w.keys) 4096 ≡ true
+  pub few_keys : nat_le (len w.keys) LIMIT ≡ true
   pub keys : keys_fit w.keys ≡ true
-  pub few_ops : nat_le (length w.ops) 8192 ≡ true
+  pub few_ops : nat_le (length w.ops) MOST_OPS ≡ true
   pub ops : list_all op_fits w.ops ≡ true
   pub covered : is_none (uncovered_from 0 w.keys w.ops) ≡ true
 
@@ -41,5 +43,5 @@ pub obeyed : (w : WriteSet) → Rules w → obeys w ≡ true
 unfolding obeys
 obeyed w r = and _ _ (and _ _ (and _ _ (and _ _ (and _ _ r.flags r.bare) r.few_keys) r.keys) (and _ _ r.few_ops r.ops)) r.covered
 
-pub few_changes : (w : WriteSet) → obeys w ≡ true → length w.ops ≤ 8192
-few_changes w h = leb-true (length w.ops) 8192 (rules_of w h).few_ops
+pub few_changes : (w : WriteSet) → obeys w ≡ true → length w.ops ≤ MOST_OPS
+few_changes w h = leb-true (length w.ops) MOST_OPS (rules_of w h).few_ops

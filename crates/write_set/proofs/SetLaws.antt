@@ -14,15 +14,16 @@ use Rattle.key_sets.specs.declared.kind.Kind.{Kind}
 use Rattle.key_sets.specs.declared.parts.Parts.{Parts}
 use Rattle.key_sets.specs.Kinds.{raised}
 use Rattle.key_sets.specs.Parts.{parts_cmp}
-use Rattle.key_sets.specs.Keys.{Keys, with_key, with_keys}
+use Rattle.key_sets.specs.Keys.{Keys, LIMIT, with_key, with_keys}
 use Rattle.key_sets.proofs.PartsLemmas.{parts_total}
+use Rattle.write_set.specs.declared.fault.WsFault.TheVariants.{Short}
 use Rattle.write_set.specs.Rules.{keys_fit}
 use Rattle.write_set.specs.Spelling.{key_text, keys_text}
 use Rattle.write_set.specs.Place.{Place}
 use Rattle.write_set.specs.Reading.{Read, some_keys_at, with_read, keys_at}
 use Rattle.write_set.proofs.RulesOf.{both, and}
 use Rattle.write_set.proofs.Bounds.{above}
-use Rattle.write_set.proofs.Fields.{IsBytes, read_ok, passed, ok_is, place, Took, took_then, number_takes, number_again, wide32}
+use Rattle.wsrep_base.proofs.Fields.{IsBytes, read_ok, passed, ok_is, place, Took, took_then, number_takes, number_again, wide32}
 use Rattle.write_set.proofs.KeyLaws.{Rises, all_fit, AllInRange, some_keys_take, some_keys_again}
 
 abbrev Key : Type 0
@@ -133,7 +134,7 @@ read_all keys (Ok y) x e = (y, refl, ok_is (with_keys keys y.0, y.1) x e)
 read_all keys (Err fault) x e = absurd cc
 
 abbrev pub TakesAllKeys : Place → Keys × Place → Type 0
-TakesAllKeys p x = Took p (keys_text x.0) x.1 × (nat_le (len x.0) 4096 ≡ true) × (keys_fit x.0 ≡ true) × AllInRange x.0.entries
+TakesAllKeys p x = Took p (keys_text x.0) x.1 × (nat_le (len x.0) LIMIT ≡ true) × (keys_fit x.0 ≡ true) × AllInRange x.0.entries
 
 pub keys_take : (p : Place) (x : Keys × Place) → IsBytes p.left → keys_at p ≡ Ok x → TakesAllKeys p x
 unfolding keys_at len
@@ -142,9 +143,9 @@ keys_take p x fits e =
     let b = passed _ _ _ x a.2 in
     let c = read_all empty (some_keys_at a.0.0 None a.0.1) x b.1 in
     let es = c.0.0 in
-    let t = number_takes w32 (2 ^ 32) wide32 p a.0 fits a.1 in
+    let t = number_takes Short w32 (2 ^ 32) wide32 p a.0 fits a.1 in
     let k = some_keys_take a.0.0 None a.0.1 c.0 t.0.fits c.1 in
-    let few : a.0.0 ≤ 4096 = ltb-false 4096 a.0.0 b.0 in
+    let few : a.0.0 ≤ LIMIT = ltb-false LIMIT a.0.0 b.0 in
     let set = with_keys empty es in
     let entries : set.entries ≡ es = set_entries es (sorted_from None es k.4) in
     let back : es ≡ set.entries = sym entries in
@@ -153,9 +154,9 @@ keys_take p x fits e =
     let taken : Took p (keys_text set) c.0.1 =
     subst (λ text. Took p text c.0.1) text (took_then p (to_be_bytes w32 a.0.0) a.0.1 (flat_map key_text es) c.0.1 t.0 k.0) in
     subst (TakesAllKeys p) c.2
-    (taken, ap (λ es'. nat_le (length es') 4096) entries ∙ le-leb (length es) 4096 (rw k.1 few), ap all_fit entries ∙ k.2, subst AllInRange back k.3)
+    (taken, ap (λ es'. nat_le (length es') LIMIT) entries ∙ le-leb (length es) LIMIT (rw k.1 few), ap all_fit entries ∙ k.2, subst AllInRange back k.3)
 
-pub keys_again : (keys : Keys) (rest : List ℕ) (at : ℕ) → nat_le (len keys) 4096 ≡ true → keys_fit keys ≡ true → AllInRange keys.entries
+pub keys_again : (keys : Keys) (rest : List ℕ) (at : ℕ) → nat_le (len keys) LIMIT ≡ true → keys_fit keys ≡ true → AllInRange keys.entries
     → (q : ℕ) × (keys_at (place (keys_text keys ++ rest) at) ≡ Ok (keys, place rest q))
 unfolding keys_at len
 keys_again keys rest at few fit range =
@@ -164,5 +165,5 @@ keys_again keys rest at few fit range =
     let others = flat_map key_text keys.entries in
     let k = some_keys_again keys.entries None rest (at + 4) fit range (rises_all keys.entries (entries_sorted keys)) in
     let is : keys_at (place (to_be_bytes w32 n ++ (others ++ rest)) at) ≡ Ok (with_keys empty keys.entries, place rest k.0) =
-    rw (number_again w32 (2 ^ 32) wide32 n (others ++ rest) at (omega arith), above 4096 n most, k.1) refl in
+    rw (number_again Short w32 (2 ^ 32) wide32 n (others ++ rest) at (omega arith), above LIMIT n most, k.1) refl in
     (k.0, ap (λ text. keys_at (place text at)) (append_assoc (to_be_bytes w32 n) others rest) ∙ is ∙ ap (λ set. Ok (set, place rest k.0)) (set_again keys))

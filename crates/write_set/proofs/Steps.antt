@@ -4,6 +4,20 @@ use Rattle.write_set.specs.declared.fault.WsFault.{WsFault}
 use Rattle.write_set.specs.declared.fault.WsFault.TheVariants.{Short, BadVersion, BadFlags, TooMany, BadKey, BadKind, NotCanonical, BadChange, Trailing, Uncovered, NoMemory}
 use Rattle.write_set.specs.Reading.{Fails}
 
+-- a fault that is met is a fault that is given
+pub is_fault : {X : Type 0} (fault : WsFault) (one : Result X WsFault) → one ≡ Err fault → Fails fault one
+is_fault (Short at) one is = is
+is_fault (BadVersion byte) one is = is
+is_fault BadFlags one is = is
+is_fault (TooMany at) one is = is
+is_fault (BadKey at) one is = is
+is_fault (BadKind at) one is = is
+is_fault (NotCanonical at) one is = is
+is_fault (BadChange at) one is = is
+is_fault (Trailing at) one is = is
+is_fault (Uncovered at) one is = is
+is_fault NoMemory one is = tt
+
 -- the fault of one reading is that of another, where the other fails as it does
 pub fails_along : {X Y : Type 0} (fault : WsFault) (one : Result X WsFault) (other : Result Y WsFault)
     → (one ≡ Err fault → other ≡ Err fault) → Fails fault one → Fails fault other

@@ -8,6 +8,8 @@ use Rattle.std.proofs.lemmas.List.{append-nil, nil_from_length}
 use Rattle.finite_map.specs.FiniteMap.{len}
 use Rattle.key_sets.specs.Keys.{Keys}
 use Rattle.row_model.specs.declared.ops.Op.{Op}
+use Rattle.write_set.specs.declared.fault.WsFault.TheVariants.{Short}
+use Rattle.write_set.specs.declared.rules.TheConstants.{MOST_OPS}
 use Rattle.write_set.specs.declared.fault.WsFault.{WsFault}
 use Rattle.write_set.specs.declared.write_set.Header.{Header}
 use Rattle.write_set.specs.declared.write_set.WriteSet.{WriteSet}
@@ -18,7 +20,7 @@ use Rattle.write_set.specs.Place.{Place, place_in}
 use Rattle.write_set.specs.Reading.{◌>>=◌, Gives, op_at, ops_at, header_at, covered, write_set_of, finished, read}
 use Rattle.write_set.proofs.RulesOf.{both, and, Rules, rules_of, obeyed}
 use Rattle.write_set.proofs.Bounds.{is_not, above}
-use Rattle.write_set.proofs.Fields.{IsBytes, read_ok, passed, ok_is, place, Took, took_then, number_takes, number_again, wide32, wide64, byte_takes, byte_again}
+use Rattle.wsrep_base.proofs.Fields.{IsBytes, read_ok, passed, ok_is, place, Took, took_then, number_takes, number_again, wide32, wide64, byte_takes, byte_again}
 use Rattle.write_set.proofs.SetLaws.{keys_take, keys_again}
 use Rattle.write_set.proofs.OpLaws.{OpFits, many_take, many_again, op_field}
 
@@ -39,7 +41,7 @@ each_fits (op ∷ ops) fit range =
 
 abbrev pub TakesOps : Bool → Bool → Place → List Op × Place → Type 0
 TakesOps rollback keyed p x =
-    Took p (ops_text x.0) x.1 × (rollback && (keyed || not (length x.0 == 0)) ≡ false) × (nat_le (length x.0) 8192 ≡ true)
+    Took p (ops_text x.0) x.1 × (rollback && (keyed || not (length x.0 == 0)) ≡ false) × (nat_le (length x.0) MOST_OPS ≡ true)
     × AllByRecursion OpFits x.0
 
 pub ops_take : (rollback keyed : Bool) (p : Place) (x : List Op × Place) → IsBytes p.left → ops_at rollback keyed p ≡ Ok x → TakesOps rollback keyed p x
@@ -48,20 +50,20 @@ ops_take rollback keyed p x fits e =
     let a = read_ok ℕ _ _ x e in
     let b = passed _ _ _ x a.2 in
     let c = passed _ _ _ x b.1 in
-    let t = number_takes w32 (2 ^ 32) wide32 p a.0 fits a.1 in
+    let t = number_takes Short w32 (2 ^ 32) wide32 p a.0 fits a.1 in
     let o = many_take op_text OpFits op_at op_field a.0.0 a.0.1 x t.0.fits c.1 in
-    let few : a.0.0 ≤ 8192 = ltb-false 8192 a.0.0 c.0 in
+    let few : a.0.0 ≤ MOST_OPS = ltb-false MOST_OPS a.0.0 c.0 in
     let taken : Took p (to_be_bytes w32 a.0.0 ++ flat_map op_text x.0) x.1 =
     took_then p (to_be_bytes w32 a.0.0) a.0.1 (flat_map op_text x.0) x.1 t.0 o.0 in
     let count : a.0.0 ≡ length x.0 = sym o.1 in (
       subst (λ n. Took p (to_be_bytes w32 n ++ flat_map op_text x.0) x.1) count taken,
       subst (λ n. rollback && (keyed || not (n == 0)) ≡ false) count b.0,
-      le-leb (length x.0) 8192 (rw o.1 few),
+      le-leb (length x.0) MOST_OPS (rw o.1 few),
       o.2,
     )
 
 pub ops_again : (rollback keyed : Bool) (ops : List Op) (rest : List ℕ) (at : ℕ) → rollback && (keyed || not (length ops == 0)) ≡ false
-    → nat_le (length ops) 8192 ≡ true → AllByRecursion OpFits ops
+    → nat_le (length ops) MOST_OPS ≡ true → AllByRecursion OpFits ops
     → (q : ℕ) × (ops_at rollback keyed (place (ops_text ops ++ rest) at) ≡ Ok (ops, place rest q))
 unfolding ops_at
 ops_again rollback keyed ops rest at bare few fits =
@@ -70,7 +72,7 @@ ops_again rollback keyed ops rest at bare few fits =
     let others = flat_map op_text ops in
     let o = many_again op_text OpFits op_at op_field ops rest (at + 4) fits in
     let is : ops_at rollback keyed (place (to_be_bytes w32 n ++ (others ++ rest)) at) ≡ Ok (ops, place rest o.0) =
-    rw (number_again w32 (2 ^ 32) wide32 n (others ++ rest) at (omega arith), bare, above 8192 n most, o.1) refl in
+    rw (number_again Short w32 (2 ^ 32) wide32 n (others ++ rest) at (omega arith), bare, above MOST_OPS n most, o.1) refl in
     (o.0, ap (λ text. ops_at rollback keyed (place text at)) (append_assoc (to_be_bytes w32 n) others rest) ∙ is)
 
 -- ---- the fields before the keys
@@ -95,13 +97,13 @@ header_takes p x fits e =
     let g = read_ok ℕ _ _ x f.2 in
     let fit = passed _ _ _ x g.2 in
     let l = read_ok ℕ _ _ x fit.1 in
-    let tv = byte_takes p v.0 fits v.1 in
-    let tm = number_takes w32 (2 ^ 32) wide32 v.0.1 m.0 tv.fits m.1 in
-    let ts = number_takes w64 (2 ^ 64) wide64 m.0.1 s.0 tm.0.fits s.1 in
-    let tb = number_takes w64 (2 ^ 64) wide64 s.0.1 b.0 ts.0.fits b.1 in
-    let tf = number_takes w32 (2 ^ 32) wide32 b.0.1 f.0 tb.0.fits f.1 in
-    let tg = byte_takes f.0.1 g.0 tf.0.fits g.1 in
-    let tl = number_takes w64 (2 ^ 64) wide64 g.0.1 l.0 tg.fits l.1 in
+    let tv = byte_takes Short p v.0 fits v.1 in
+    let tm = number_takes Short w32 (2 ^ 32) wide32 v.0.1 m.0 tv.fits m.1 in
+    let ts = number_takes Short w64 (2 ^ 64) wide64 m.0.1 s.0 tm.0.fits s.1 in
+    let tb = number_takes Short w64 (2 ^ 64) wide64 s.0.1 b.0 ts.0.fits b.1 in
+    let tf = number_takes Short w32 (2 ^ 32) wide32 b.0.1 f.0 tb.0.fits f.1 in
+    let tg = byte_takes Short f.0.1 g.0 tf.0.fits g.1 in
+    let tl = number_takes Short w64 (2 ^ 64) wide64 g.0.1 l.0 tg.fits l.1 in
     let h : Header = record { member = m.0.0; serial = s.0.0; begin = b.0.0; fragment = f.0.0; flags = g.0.0; last_seen = l.0.0 } in
     let end = l.0.1 in
     let text6 = to_be_bytes w64 l.0.0 in
@@ -145,14 +147,14 @@ module _ (h : Header) (rest : List ℕ) (range : HeaderInRange h) where
   fields_again at = (
     at + 1 + 4 + 8 + 8 + 4 + 1 + 8,
     rw (
-      byte_again 1 (to_be_bytes w32 h.member ++ rest2) at,
-      number_again w32 (2 ^ 32) wide32 h.member rest2 (at + 1) range.member,
-      number_again w64 (2 ^ 64) wide64 h.serial rest3 (at + 1 + 4) range.serial,
-      number_again w64 (2 ^ 64) wide64 h.begin rest4 (at + 1 + 4 + 8) range.begin,
-      number_again w32 (2 ^ 32) wide32 h.fragment (h.flags ∷ rest6) (at + 1 + 4 + 8 + 8) range.fragment,
-      byte_again h.flags rest6 (at + 1 + 4 + 8 + 8 + 4),
+      byte_again Short 1 (to_be_bytes w32 h.member ++ rest2) at,
+      number_again Short w32 (2 ^ 32) wide32 h.member rest2 (at + 1) range.member,
+      number_again Short w64 (2 ^ 64) wide64 h.serial rest3 (at + 1 + 4) range.serial,
+      number_again Short w64 (2 ^ 64) wide64 h.begin rest4 (at + 1 + 4 + 8) range.begin,
+      number_again Short w32 (2 ^ 32) wide32 h.fragment (h.flags ∷ rest6) (at + 1 + 4 + 8 + 8) range.fragment,
+      byte_again Short h.flags rest6 (at + 1 + 4 + 8 + 8 + 4),
       range.fit,
-      number_again w64 (2 ^ 64) wide64 h.last_seen rest (at + 1 + 4 + 8 + 8 + 4 + 1) range.last_seen,
+      number_again Short w64 (2 ^ 64) wide64 h.last_seen rest (at + 1 + 4 + 8 + 8 + 4 + 1) range.last_seen,
     ) refl,
   )
 

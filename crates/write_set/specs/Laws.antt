@@ -1,7 +1,7 @@
 -- what holds between the spelling of a write set and the reading of bytes
 use Rattle.std.specs.Prelude.{◌≡◌, ℕ, ◌<◌, ◌≤◌, List, ◌++◌, length, drop, slice_index, nat_le, Ok, IsTrue}
 use Rattle.finite_map.specs.FiniteMap.{len}
-use Rattle.key_sets.specs.Keys.{Keys}
+use Rattle.key_sets.specs.Keys.{Keys, LIMIT}
 use Rattle.row_model.specs.declared.ops.Op.{Op}
 use Rattle.write_set.specs.declared.write_set.WriteSet.{WriteSet}
 use Rattle.write_set.specs.Rules.{keys_fit, ops_fit, obeys, InRange}
@@ -18,7 +18,8 @@ SpellingIsRead = (w : WriteSet) → InRange w → IsTrue (obeys w) → read (spe
 
 -- no other bytes are read as a write set
 abbrev pub OnlySpellingsAreRead : Type 0
-OnlySpellingsAreRead = (bytes : List ℕ) (w : WriteSet) → ((i : ℕ) → slice_index bytes i < 256) → read bytes ≡ Ok w → IsSpelled bytes w
+OnlySpellingsAreRead = (bytes : List ℕ) (w : WriteSet) → ((i : ℕ) → slice_index bytes i < 256)
+    → read bytes ≡ Ok w → IsSpelled bytes w
 
 -- the text stands between two places of the bytes
 abbrev pub StandsBetween : List ℕ → ℕ → ℕ → List ℕ → Type 0
@@ -28,10 +29,10 @@ StandsBetween bytes at end text = (end ≤ length bytes) × (drop at bytes ≡ t
 abbrev pub with_rest : {A : Type 0} → List ℕ → A × ℕ → A × List ℕ
 with_rest bytes x = (x.0, drop x.1 bytes)
 
--- at most 4,096 keys, whose names have their form
+-- keys within the limit of a set, whose names have their form
 abbrev pub AreKeys : Keys → Type 0
-AreKeys keys = IsTrue (nat_le (len keys) 4096) × IsTrue (keys_fit keys)
+AreKeys keys = IsTrue (nat_le (len keys) LIMIT) × IsTrue (keys_fit keys)
 
--- at most 8,192 changes in their form
+-- changes in their form, within their limit
 abbrev pub AreOps : List Op → Type 0
 AreOps ops = IsTrue (ops_fit ops)

@@ -1,15 +1,15 @@
 -- reading a write set from left to right: its value, or the first fault that is met
-use Rattle.std.specs.Prelude.{◌≡◌, ℕ, zero, suc, ◌+◌, ◌-◌, ◌==◌, Bool, true, false, not, ◌&&◌, ◌||◌, nat_le, nat_lt, List, [], ◌∷◌, ◌++◌, length, take, drop, replicate, Option, Some, None, Result, Ok, Err, if◌then◌else◌}
+use Rattle.std.specs.Prelude.{◌≡◌, ℕ, zero, suc, ◌+◌, ◌-◌, ◌==◌, Bool, true, not, ◌&&◌, ◌||◌, nat_le, nat_lt, List, [], ◌∷◌, ◌++◌, length, replicate, Option, Some, None, Result, Ok, Err, if◌then◌else◌}
 use Rattle.std.specs.List.{position}
 use Rattle.std.specs.Result.{result_ok}
-use Rattle.std.specs.Int.{Width, w8, w32, w64, byte_len, from_be_bytes}
+use Rattle.std.specs.Int.{Width, w8, w32, w64}
 use Rattle.std.specs.Ordering.{is_lt}
 use Rattle.finite_map.specs.FiniteMap.{empty, len}
 use Rattle.key_sets.specs.declared.kind.Kind.{Kind}
 use Rattle.key_sets.specs.declared.kind.Kind.TheVariants as kind
 use Rattle.key_sets.specs.declared.parts.Parts.{Parts}
 use Rattle.key_sets.specs.Parts.{parts_cmp}
-use Rattle.key_sets.specs.Keys.{Keys, with_keys}
+use Rattle.key_sets.specs.Keys.{Keys, LIMIT, with_keys}
 use Rattle.row_model.specs.declared.row.RowId.{RowId}
 use Rattle.row_model.specs.declared.ops.Op.{Op}
 use Rattle.row_model.specs.declared.ops.Op.TheVariants.{Insert, Update, Delete}
@@ -17,48 +17,30 @@ use Rattle.write_set.specs.declared.fault.WsFault.{WsFault}
 use Rattle.write_set.specs.declared.fault.WsFault.TheVariants.{Short, BadVersion, BadFlags, TooMany, BadKey, BadKind, NotCanonical, BadChange, Trailing, Uncovered, NoMemory}
 use Rattle.write_set.specs.declared.write_set.Header.{Header}
 use Rattle.write_set.specs.declared.write_set.WriteSet.{WriteSet}
+use Rattle.write_set.specs.declared.rules.TheConstants.{MOST_OPS}
 use Rattle.write_set.specs.declared.names.NameRole.{NameRole}
 use Rattle.write_set.specs.declared.names.NameRole.TheVariants as role
 use Rattle.write_set.specs.Names.{admits, padded}
 use Rattle.write_set.specs.Rules.{flags_fit, uncovered_from}
+use Rattle.wsrep_base.specs.Reading as fields
+pub use Rattle.wsrep_base.specs.Reading.{◌>>=◌, refuse}
+unfoldable pub use Rattle.wsrep_base.specs.Reading.{many_at}
 use Rattle.write_set.specs.Place.{Place, place_in}
-
-infixl 10 ◌>>=◌
-abbrev pub ◌>>=◌ : {A B : Type 0} → Result A WsFault → (A → Result B WsFault) → Result B WsFault
-(Ok x) >>= f = f x
-(Err fault) >>= f = Err fault
 
 -- a value and the place behind it, or the first fault
 abbrev pub Read : Type 0 → Type 0
 Read A = Result (A × Place) WsFault
 
--- the fault, where the test holds
-abbrev pub refuse : Bool → WsFault → Result (Unit {0}) WsFault
-refuse true fault = Err fault
-refuse false fault = Ok tt
-
 -- the next n bytes
-unfoldable pub bytes_at : ℕ → Place → Read (List ℕ)
-bytes_at n p =
-    if nat_lt (length p.left) n then Err (Short p.at)
-    else Ok (take n p.left, record { left = drop n p.left; at = p.at + n })
+abbrev pub bytes_at : ℕ → Place → Read (List ℕ)
+bytes_at = fields.bytes_at Short
 
-unfoldable pub number_at : Width → Place → Read ℕ
-number_at w p = do
-  bytes ← bytes_at (byte_len w) p
-  Ok (from_be_bytes w bytes.0, bytes.1)
+abbrev pub number_at : Width → Place → Read ℕ
+number_at = fields.number_at Short
 
 -- what is read, with the place behind it as a number
 abbrev pub behind : {A : Type 0} → Read A → Result (A × ℕ) WsFault
 behind reading = reading >>= λ one. Ok (one.0, one.1.at)
-
--- so many values, one behind the other
-unfoldable pub many_at : {A : Type 0} → (Place → Read A) → ℕ → Place → Read (List A)
-many_at one_at zero p = Ok ([], p)
-many_at one_at (suc n) p = do
-  one ← one_at p
-  others ← many_at one_at n one.1
-  Ok (one.0 ∷ others.0, others.1)
 
 -- the fault of a name at a place
 abbrev pub fault_of : NameRole → ℕ → WsFault
@@ -121,11 +103,11 @@ abbrev pub with_read : Keys → Read (List (Parts × Kind)) → Read Keys
 with_read keys (Ok more) = Ok (with_keys keys more.0, more.1)
 with_read keys (Err fault) = Err fault
 
--- the number of keys, at most 4,096, and the keys
+-- the number of keys, at most so many as a set may have, and the keys
 unfoldable pub keys_at : Place → Read Keys
 keys_at p = do
   count ← number_at w32 p
-  few ← refuse (nat_lt 4096 count.0) (TooMany p.at)
+  few ← refuse (nat_lt LIMIT count.0) (TooMany p.at)
   with_read empty (some_keys_at count.0 None count.1)
 
 unfoldable pub place_at : Place → Read RowId
@@ -176,12 +158,13 @@ op_at p = do
   id ← place_at tag.1
   op_body_at tag.0 id.0 id.1
 
--- the number of changes, at most 8,192, and the changes. A rollback with a key or a change is refused before that limit
+-- the number of changes within its limit, and the changes. A rollback with a key or a change is
+-- refused before that limit
 unfoldable pub ops_at : Bool → Bool → Place → Read (List Op)
 ops_at rollback keyed p = do
   count ← number_at w32 p
   bare ← refuse (rollback && (keyed || not (count.0 == 0))) BadFlags
-  few ← refuse (nat_lt 8192 count.0) (TooMany p.at)
+  few ← refuse (nat_lt MOST_OPS count.0) (TooMany p.at)
   many_at op_at count.0 count.1
 
 -- what stands before the keys. A break of the flags is met once they are read
@@ -196,7 +179,17 @@ header_at p = do
   flags ← number_at w8 fragment.1
   fit ← refuse (not (flags_fit flags.0 fragment.0)) BadFlags
   seen ← number_at w64 flags.1
-  Ok (record { member = member.0; serial = serial.0; begin = begin.0; fragment = fragment.0; flags = flags.0; last_seen = seen.0 }, seen.1)
+  Ok (
+    record {
+      member = member.0;
+      serial = serial.0;
+      begin = begin.0;
+      fragment = fragment.0;
+      flags = flags.0;
+      last_seen = seen.0;
+    },
+    seen.1,
+  )
 
 abbrev pub covered : Option ℕ → Result (Unit {0}) WsFault
 covered None = Ok tt

@@ -5,22 +5,24 @@ use Rattle.finite_map.specs.FiniteMap.{get, len}
 use Rattle.key_sets.specs.declared.kind.Kind.{Kind}
 use Rattle.key_sets.specs.declared.kind.Kind.TheVariants as kind
 use Rattle.key_sets.specs.declared.parts.Parts.{Parts}
-use Rattle.key_sets.specs.Keys.{Keys}
+use Rattle.key_sets.specs.Keys.{Keys, LIMIT}
 use Rattle.row_model.specs.declared.row.RowId.{RowId}
 use Rattle.row_model.specs.declared.ops.Op.{Op}
 use Rattle.row_model.specs.declared.ops.Op.TheVariants.{Insert, Update, Delete}
 use Rattle.row_model.specs.Rows.{id_of}
 use Rattle.write_set.specs.declared.write_set.WriteSet.{WriteSet}
+use Rattle.write_set.specs.declared.rules.TheConstants.{MOST_OPS}
 use Rattle.write_set.specs.Names.{is_name, is_table_letter, is_row_letter}
 use Rattle.write_set.specs.Spelling.{named}
 pub use Rattle.row_model.specs.Names.{place_fits}
 
--- START 1 and END 2 may stand together; ROLLBACK 4 stands alone. START is set exactly where the fragment number is 0 and
--- ROLLBACK is not set; ROLLBACK has fragment number 0
+-- START 1 and END 2 may stand together; ROLLBACK 4 stands alone. START is set exactly where the
+-- fragment number is 0 and ROLLBACK is not set; ROLLBACK has fragment number 0
 abbrev pub flags_fit : ℕ → ℕ → Bool
 flags_fit flags fragment =
     if flags == 4 then fragment == 0
-    else nat_le flags 3 && (if fragment == 0 then flags == 1 || flags == 3 else flags == 0 || flags == 2)
+    else nat_le flags 3
+    && (if fragment == 0 then flags == 1 || flags == 3 else flags == 0 || flags == 2)
 
 abbrev pub row_fits : Option (List ℕ) → Bool
 row_fits None = true
@@ -39,9 +41,9 @@ op_fits (Insert id values) = place_fits id
 op_fits (Update id change) = place_fits id && not (named change == 0)
 op_fits (Delete id) = place_fits id
 
--- so do those of all changes, of which there are at most 8,192
+-- so do those of all changes, and these are within their limit
 abbrev pub ops_fit : List Op → Bool
-ops_fit ops = nat_le (length ops) 8192 && list_all op_fits ops
+ops_fit ops = nat_le (length ops) MOST_OPS && list_all op_fits ops
 
 abbrev pub is_exclusive : Option Kind → Bool
 is_exclusive None = false
@@ -76,7 +78,8 @@ is_covered keys op =
 -- the first change that no key covers; the first of the list is counted as `at`
 abbrev pub uncovered_from : ℕ → Keys → List Op → Option ℕ
 uncovered_from at keys [] = None
-uncovered_from at keys (op ∷ ops) = if is_covered keys op then uncovered_from (at + 1) keys ops else Some at
+uncovered_from at keys (op ∷ ops) =
+    if is_covered keys op then uncovered_from (at + 1) keys ops else Some at
 
 -- a rollback has no key and no change
 abbrev pub rollback_is_bare : ℕ → ℕ → ℕ → Bool
@@ -86,7 +89,8 @@ rollback_is_bare flags keys ops = not (flags == 4) || (keys == 0 && ops == 0)
 unfoldable pub obeys : WriteSet → Bool
 obeys w =
     flags_fit w.flags w.fragment && rollback_is_bare w.flags (len w.keys) (length w.ops)
-    && nat_le (len w.keys) 4096 && keys_fit w.keys && ops_fit w.ops && is_none (uncovered_from 0 w.keys w.ops)
+    && nat_le (len w.keys) LIMIT && keys_fit w.keys && ops_fit w.ops
+    && is_none (uncovered_from 0 w.keys w.ops)
 
 -- What is true of every value of the types, and has to be said where any number may stand.
 
@@ -101,8 +105,10 @@ IsCell cell = IfSome cell (λ value. value < 2 ^ 64)
 
 abbrev pub OpInRange : Op → Type 0
 OpInRange (Insert id values) =
-    place_in_range id × (1 ≤ length values) × (length values ≤ 8) × AllByRecursion (λ value. value < 2 ^ 64) values
-OpInRange (Update id change) = place_in_range id × (length change ≡ 8) × AllByRecursion IsCell change
+    place_in_range id × (1 ≤ length values) × (length values ≤ 8)
+    × AllByRecursion (λ value. value < 2 ^ 64) values
+OpInRange (Update id change) =
+    place_in_range id × (length change ≡ 8) × AllByRecursion IsCell change
 OpInRange (Delete id) = place_in_range id
 
 abbrev pub KeysInRange : Keys → Type 0

@@ -33,7 +33,8 @@ row_text (Some row) = name_text row
 
 -- the number of parts, the kind, the table, and the row where there is one
 abbrev pub key_text : Parts × Kind → List ℕ
-key_text key = parts_byte key.0.row ∷ kind_byte key.1 ∷ (name_text key.0.table ++ row_text key.0.row)
+key_text key =
+    parts_byte key.0.row ∷ kind_byte key.1 ∷ (name_text key.0.table ++ row_text key.0.row)
 
 -- the number of keys, and the keys in order
 abbrev pub keys_text : Keys → List ℕ
@@ -53,7 +54,8 @@ row_values_text values = length values ∷ values_text values
 abbrev pub columns_text : ℕ → List (Option ℕ) → List ℕ
 columns_text column [] = []
 columns_text column (None ∷ change) = columns_text (column + 1) change
-columns_text column (Some value ∷ change) = (column ∷ to_be_bytes w64 value) ++ columns_text (column + 1) change
+columns_text column (Some value ∷ change) =
+    (column ∷ to_be_bytes w64 value) ++ columns_text (column + 1) change
 
 -- the number of columns that are named, and these columns
 abbrev pub change_text : List (Option ℕ) → List ℕ
@@ -71,7 +73,8 @@ ops_text ops = to_be_bytes w32 (length ops) ++ flat_map op_text ops
 
 -- the version, and the transaction that sends the write set
 abbrev pub sender_text : WriteSet → List ℕ
-sender_text w = 1 ∷ (to_be_bytes w32 w.member ++ (to_be_bytes w64 w.serial ++ to_be_bytes w64 w.begin))
+sender_text w =
+    1 ∷ (to_be_bytes w32 w.member ++ (to_be_bytes w64 w.serial ++ to_be_bytes w64 w.begin))
 
 -- where in its transaction it stands
 abbrev pub step_text : WriteSet → List ℕ

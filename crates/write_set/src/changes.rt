@@ -5,8 +5,7 @@ ghost use Rattle.std.specs.Int.{w64};
 ghost use Rattle.write_set.specs.Reading.{Gives, place_at, count_at, many_at, number_at, values_at, some_columns_at, columns_at, op_body_at, op_at, ops_at};
 ghost use Rattle.write_set.specs.Spelling.{place_text, values_text, row_values_text, named, columns_text, change_text, op_text, ops_text};
 
-use crate::cursor::Cursor;
-use crate::fault::WsFault;
+use crate::fault::{Cursor, WsFault};
 use crate::names::{NameRole, name_of, put_name};
 use crate::rules::MOST_OPS;
 use row_model::{Change, Op, OpList, Row, RowId};
@@ -40,7 +39,8 @@ fn count_of<'a>(cursor: Cursor<'a>) -> Result<(u8, Cursor<'a>), WsFault>
 // Reads so many values into the first cells.
 fn some_values_of<'a>(count: u8, cursor: Cursor<'a>) -> Result<([u64; 8], Cursor<'a>), WsFault>
     requires { count ≤ 8 }
-    ensures { Gives (λ x. (take count x.0, x.1)) result (many_at (number_at w64) count cursor.entry) }
+    ensures { Gives (λ x. (take count x.0, x.1)) result
+        (many_at (number_at w64) count cursor.entry) }
 {
     let mut cells = [0; 8];
     let mut rest = cursor;

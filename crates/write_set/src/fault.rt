@@ -2,6 +2,10 @@ ghost use Rattle.std.specs.Prelude.{◌≡◌};
 
 use std::alloc::AllocError;
 use thiserror::Error;
+use wsrep_base::ReadFault;
+
+/// A place in the bytes of a write set, or of what has parts of one.
+pub type Cursor<'a> = wsrep_base::Cursor<'a, WsFault>;
 
 /// Why bytes are no write set: the first fault from left to right. A number is the place of the
 /// first byte of the field at fault, unless it is said otherwise.
@@ -41,6 +45,16 @@ pub enum WsFault {
     /// Memory ran out.
     #[error("memory ran out")]
     NoMemory,
+}
+
+impl ReadFault for WsFault {
+    ghost use Rattle.write_set.specs.declared.fault.WsFault.TheVariants.{Short};
+
+    ghost short = { Short };
+
+    fn short(at: usize) -> WsFault {
+        WsFault::Short(at)
+    }
 }
 
 impl From<AllocError> for WsFault {

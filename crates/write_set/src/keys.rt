@@ -6,8 +6,7 @@ ghost use Rattle.key_sets.specs.Keys.{LIMIT};
 ghost use Rattle.write_set.specs.Reading.{Gives, is_above, key_at, key_row_at, keys_at, kind_of_byte, some_keys_at, with_read};
 ghost use Rattle.write_set.specs.Spelling.{key_text, keys_text, kind_byte, parts_byte, row_text};
 
-use crate::cursor::Cursor;
-use crate::fault::WsFault;
+use crate::fault::{Cursor, WsFault};
 use crate::names::{NameRole, name_of, put_name};
 use key_sets::{KeyFault, KeySet, Kind, Parts};
 use std::alloc::Global;
@@ -72,7 +71,8 @@ fn some_keys_of<'a>(
     cursor: Cursor<'a>,
 ) -> Result<(KeySet, Cursor<'a>), WsFault>
     requires { count ≤ LIMIT }
-    ensures { Gives (λ x. (x.0, x.1)) result (with_read empty (some_keys_at count None cursor.entry)) }
+    ensures { Gives (λ x. (x.0, x.1)) result
+        (with_read empty (some_keys_at count None cursor.entry)) }
 {
     let mut keys = KeySet::new(alloc)?;
     let mut before = None;
@@ -104,7 +104,7 @@ pub fn keys_of<'a>(alloc: Global, cursor: Cursor<'a>) -> Result<(KeySet, Cursor<
 {
     let at = cursor.at();
     let (count, after) = cursor.number32()?;
-    if count > 4096 {
+    if count as usize > KeySet::LIMIT {
         return Err(WsFault::TooMany(at));
     }
     some_keys_of(alloc, count, after)

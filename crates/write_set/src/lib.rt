@@ -3,7 +3,6 @@
 #![tactic(auto)]
 
 mod changes;
-mod cursor;
 mod fault;
 mod keys;
 mod laws;
@@ -14,8 +13,7 @@ mod write_set;
 mod writing;
 
 pub use changes::{op_body_of, put_all_ops, put_place, put_row_values, values_of};
-pub use cursor::Cursor;
-pub use fault::WsFault;
+pub use fault::{Cursor, WsFault};
 pub use keys::{key_of, keys_of, put_all_keys};
 pub use laws::one_spelling;
 pub use names::{NameRole, name_of};

@@ -6,8 +6,7 @@ ghost use Rattle.write_set.specs.Names.{admits, is_name, name_len, padded, is_ta
 ghost use Rattle.write_set.specs.Reading.{Gives, fault_of, name_at};
 ghost use Rattle.write_set.specs.Spelling.{name_text};
 
-use crate::cursor::Cursor;
-use crate::fault::WsFault;
+use crate::fault::{Cursor, WsFault};
 use wsrep_base::{ByteList, NoMemory};
 
 /// What a name names, which says what letters it has and which fault it is where it is outside

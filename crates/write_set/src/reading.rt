@@ -11,8 +11,7 @@ ghost use Rattle.write_set.specs.Place.{place_in};
 ghost use Rattle.write_set.specs.Reading.{Gives, behind, header_at, keys_at, ops_at, finished, read};
 
 use crate::changes::ops_of;
-use crate::cursor::Cursor;
-use crate::fault::WsFault;
+use crate::fault::{Cursor, WsFault};
 use crate::keys::keys_of;
 use crate::rules::{ROLLBACK, first_uncovered, flags_fit};
 use crate::write_set::{Header, WriteSet};
@@ -89,7 +88,8 @@ pub fn decode(alloc: Global, bytes: &[u8]) -> Result<WriteSet, WsFault>
     // What is read is valid, and the bytes are its spelling.
     ensures found { IfOk result (λ w. IsSpelled bytes.now w) }
     // A spelling is read, unless memory runs out.
-    ensures only { (w : WriteSet) → InRange w → IsSpelled bytes.now w → Gives (λ x. x) result (Ok w) }
+    ensures only { (w : WriteSet) → InRange w → IsSpelled bytes.now w
+        → Gives (λ x. x) result (Ok w) }
     // Which fault it is.
     ensures exact { Gives (λ w. w) result (read bytes.now) }
 {
@@ -100,9 +100,12 @@ pub fn decode(alloc: Global, bytes: &[u8]) -> Result<WriteSet, WsFault>
 pub fn read_keys(alloc: Global, bytes: &[u8], at: usize) -> Result<(KeySet, usize), WsFault>
     requires { at ≤ length bytes.now }
     // The keys stand between the two places.
-    ensures found { IfOk result (λ x. AreKeys x.0 × StandsBetween bytes.now at x.1 (keys_text x.0)) }
+    ensures found { IfOk result (λ x. AreKeys x.0
+        × StandsBetween bytes.now at x.1 (keys_text x.0)) }
     // Keys that stand there are read, unless memory runs out.
-    ensures only { (keys : Keys) (rest : List ℕ) → KeysInRange keys → AreKeys keys → drop at bytes.now ≡ keys_text keys ++ rest → Gives (with_rest bytes.now) result (Ok (keys, rest)) }
+    ensures only { (keys : Keys) (rest : List ℕ) → KeysInRange keys → AreKeys keys
+        → drop at bytes.now ≡ keys_text keys ++ rest
+        → Gives (with_rest bytes.now) result (Ok (keys, rest)) }
     // Which fault it is.
     ensures exact { Gives (λ x. (x.0, x.1)) result (behind (keys_at (place_in bytes.now at))) }
 {
@@ -124,16 +127,20 @@ pub fn read_ops(alloc: Global, bytes: &[u8], at: usize) -> Result<(OpList, usize
     // The changes stand between the two places.
     ensures found { IfOk result (λ x. AreOps x.0 × StandsBetween bytes.now at x.1 (ops_text x.0)) }
     // Changes that stand there are read, unless memory runs out.
-    ensures only { (ops : List Op) (rest : List ℕ) → OpsInRange ops → AreOps ops → drop at bytes.now ≡ ops_text ops ++ rest → Gives (with_rest bytes.now) result (Ok (ops, rest)) }
+    ensures only { (ops : List Op) (rest : List ℕ) → OpsInRange ops → AreOps ops
+        → drop at bytes.now ≡ ops_text ops ++ rest
+        → Gives (with_rest bytes.now) result (Ok (ops, rest)) }
     // Which fault it is.
-    ensures exact { Gives (λ x. (x.0, x.1)) result (behind (ops_at false false (place_in bytes.now at))) }
+    ensures exact { Gives (λ x. (x.0, x.1)) result
+        (behind (ops_at false false (place_in bytes.now at))) }
 {
     ops_from(alloc, bytes, at)
 }
 
 fn ops_from(alloc: Global, bytes: &[u8], at: usize) -> Result<(OpList, usize), WsFault>
     requires { at ≤ length bytes.now }
-    ensures { Gives (λ x. (x.0, x.1)) result (behind (ops_at false false (place_in bytes.now at))) }
+    ensures { Gives (λ x. (x.0, x.1)) result
+        (behind (ops_at false false (place_in bytes.now at))) }
 {
     let (ops, rest) = ops_of(alloc, false, false, Cursor::new(bytes, at))?;
     Ok((ops, rest.at()))

@@ -1,3 +1,5 @@
 pub mod Bytes
+pub mod Place
+pub mod Reading
 pub mod StateId
 pub mod Trx

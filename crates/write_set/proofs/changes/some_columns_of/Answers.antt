@@ -1,13 +1,14 @@
 use Rattle.std.proofs.Common.{◌≡◌, ◌<◌, ◌⊎◌, arith, inl, inr, take}
 use Rattle.write_set.specs.Reading.{some_columns_at}
 use Rattle.write_set.proofs.Loops.{column_ends, column_is_none, column_falls, value_ends, column_goes_on, more_empty, columns_done}
+use Rattle.write_set.proofs.Steps.{is_fault}
 use Rattle.write_set.proofs.changes.some_columns_of.Goals as goal
 use Rattle.write_set.proofs.changes.some_columns_of.Goals.{then-column-eq0-via-then-column-eq0, then-column-eq0-via-else-column-eq0+then-column-gt8}
 
 pub returns-in-Err : goal.returns-in-Err
 returns-in-Err c =
     column_ends (take c.loop.last c.loop.change) c.args.count c.loop.counter c.loop.last c.loop.rest (some_columns_at c.args.count 0 c.args.cursor)
-    c.loop-test.true c.loop.invariant.so_far c.in-Err.fault c.in-Err.ensures
+    c.loop-test.true c.loop.invariant.so_far c.in-Err.fault (is_fault c.in-Err.fault _ c.in-Err.ensures)
 
 pub returns-then-column-eq0 : goal.returns-then-column-eq0
 returns-then-column-eq0 c =
@@ -29,7 +30,7 @@ pub returns-in-Err-number64 : goal.returns-in-Err-number64
 returns-in-Err-number64 c =
     value_ends (take c.loop.last c.loop.change) c.args.count c.loop.counter c.loop.last c.loop.rest (some_columns_at c.args.count 0 c.args.cursor)
     c.loop-test.true c.loop.invariant.so_far c.in-Err-number64.fault c.in-Ok.number.0 c.in-Ok.number.1 c.in-Ok.ensures (omega arith) (omega arith)
-    c.in-Err-number64.ensures
+    (is_fault c.in-Err-number64.fault _ c.in-Err-number64.ensures)
 
 pub loop-preserved : goal.loop-preserved
 loop-preserved c =

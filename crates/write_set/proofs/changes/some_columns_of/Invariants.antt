@@ -1,6 +1,7 @@
 use Rattle.std.proofs.Common.{◌≡◌, ◌-◌, take}
 use Rattle.write_set.specs.Reading.{some_columns_at}
-use Rattle.write_set.proofs.Loops.{with_front, AreUpTo}
+use Rattle.wsrep_base.proofs.Fields.{with_front}
+use Rattle.write_set.proofs.Loops.{AreUpTo}
 use Rattle.write_set.proofs.changes.some_columns_of.Given as goal
 
 abbrev pub invariant-loop : goal.invariant-loop

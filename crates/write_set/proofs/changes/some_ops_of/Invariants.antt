@@ -1,6 +1,6 @@
 use Rattle.std.proofs.Common.{◌≡◌, ◌-◌}
 use Rattle.write_set.specs.Reading.{many_at, op_at}
-use Rattle.write_set.proofs.Loops.{with_front}
+use Rattle.wsrep_base.proofs.Fields.{with_front}
 use Rattle.write_set.proofs.changes.some_ops_of.Given as goal
 
 abbrev pub invariant-loop : goal.invariant-loop

@@ -3,12 +3,13 @@ use Rattle.std.specs.Int.{w64}
 use Rattle.std.proofs.lemmas.List.{take_more_set, length-set}
 use Rattle.write_set.specs.Reading.{many_at, number_at}
 use Rattle.write_set.proofs.Loops.{goes_on, ends, is_done}
+use Rattle.write_set.proofs.Steps.{is_fault}
 use Rattle.write_set.proofs.changes.some_values_of.Goals as goal
 
 pub returns-in-Err : goal.returns-in-Err
 returns-in-Err c =
     ends (number_at w64) c.in-Err.fault (take c.loop-at.at c.loop-at.cells) c.args.count c.loop-at.at c.loop-at.rest
-    (many_at (number_at w64) c.args.count c.args.cursor) c.loop-at-test.true c.in-Err.ensures c.loop-at.invariant.so_far
+    (many_at (number_at w64) c.args.count c.args.cursor) c.loop-at-test.true (is_fault c.in-Err.fault _ c.in-Err.ensures) c.loop-at.invariant.so_far
 
 pub loop-at-preserved : goal.loop-at-preserved
 loop-at-preserved c =

@@ -1,7 +1,7 @@
 use Rattle.std.proofs.Common.{◌≡◌, ◌-◌, length, take}
 use Rattle.std.specs.Int.{w64}
 use Rattle.write_set.specs.Reading.{many_at, number_at}
-use Rattle.write_set.proofs.Loops.{with_front}
+use Rattle.wsrep_base.proofs.Fields.{with_front}
 use Rattle.write_set.proofs.changes.some_values_of.Given as goal
 
 abbrev pub invariant-loop-at : goal.invariant-loop-at
