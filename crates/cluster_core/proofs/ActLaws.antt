@@ -32,7 +32,7 @@ use Rattle.cluster_core.specs.declared.fault.StepFault.{StepFault}
 use Rattle.cluster_core.specs.declared.fault.StepFault.TheVariants as fault
 use Rattle.cluster_core.specs.Faults.{step_fault}
 use Rattle.cluster_core.specs.Acts.{IsKept, AreKept, Goes, Acted, Failed, Left, Runs, cluster_of, nodes_of}
-use Rattle.cluster_core.specs.Steps.{LeftBy, StoppedAt, WantedBy, Wants, WantsAt, AtNoMemory, after_acts, drain_acts_of}
+use Rattle.cluster_core.specs.Steps.{StoppedAt, Wants, MayFail, MayFailAt, FailedBy, after_acts, drain_acts_of}
 use Rattle.cluster_core.proofs.SeatLaws.{seated_grow}
 
 -- ---- lists
@@ -55,18 +55,15 @@ all_at P [] i x all there = absurd cc
 all_at P (y ∷ ys) zero x all there = subst P (same_Some y x there) all.0
 all_at P (y ∷ ys) (suc i) x all there = all_at P ys i x all.1 there
 
--- ---- want of memory
-pub at_map : (P Q : Type 0) (e : StepFault) → (P → Q) → AtNoMemory P e → AtNoMemory Q e
-at_map P Q fault.Group f p = tt
-at_map P Q fault.NoMemory f p = f p
-
-pub at_any : (P : Type 0) (e : StepFault) → P → AtNoMemory P e
-at_any P fault.Group p = tt
-at_any P fault.NoMemory p = p
-
+-- ---- faults
 some_waits : (queue : List Message) (m : Message) → oldest queue ≡ Some m → 0 < length queue
 some_waits [] m some = absurd cc
 some_waits (q ∷ qs) m some = omega arith
+
+-- ordering a message that waits may come to either fault
+may_order : (order : List Event) (n : ModelNode) (e : StepFault) → 0 < length n.outbox → MayFail order n act.Order e
+may_order order n fault.Group waits = waits
+may_order order n fault.NoMemory waits = waits
 
 few_of : (member : ℕ) (m : Message) → HasFewMembers (event_of member m)
 few_of member (message.Write body) = tt
@@ -110,7 +107,7 @@ module _ (a : Act) (order : List Event) (old : Seat) (kept : IsKept order old) w
   failed_alone new u wants left = record {
     next = a;
     left = left (refl, refl, u.plain);
-    wants = subst (λ n. Wants order n a) (sym u.plain) wants;
+    may = subst (λ n. Wants order n a) (sym u.plain) wants;
     goes = goes_same order order new refl (record { few = kept.few; seated = u.seated order kept.seated });
   }
 
@@ -238,34 +235,35 @@ slice_within (x ∷ xs) zero some = omega arith
 slice_within (x ∷ xs) (suc i) some = omega (arith, slice_within xs i some)
 
 pub take_failed : (before now : List Event) (old new : Seat) (e : StepFault) → now ≡ before → SeatUnchanged old new → IsKept before old
-    → AtNoMemory (TakeWants (plain_of old.node) × IsSome (event_at before (old.node.at.taken + 1))) e → Failed act.Take before now old new e
-take_failed before now old new e is u kept wants = record {
+    → MayFail before (plain_of old.node) act.Take e → Failed act.Take before now old new e
+take_failed before now old new e is u kept may = record {
   next = act.Take;
   left = (refl, is, u.plain);
-  wants = at_map (TakeWants (plain_of old.node) × IsSome (event_at before (old.node.at.taken + 1))) (Wants now (plain_of new.node) act.Take) e (λ h.
-      subst (λ o. Wants o (plain_of new.node) act.Take) (sym is)
-      (subst (λ n. Wants before n act.Take) (sym u.plain)
-      (h.0, slice_within before old.node.at.taken (subst IsSome (next_event before old.node.at.taken) h.1)))) wants;
+  may = subst (λ o. MayFail o (plain_of new.node) act.Take e) (sym is) (subst (λ n. MayFail before n act.Take e) (sym u.plain) may);
   goes = goes_same before now new is (record { few = kept.few; seated = u.seated before kept.seated });
 }
+
+-- taking an event that is there may want memory
+pub take_wants : (order : List Event) (n : ModelNode) → TakeWants n → IsSome (event_at order (n.at.taken + 1)) → Wants order n act.Take
+take_wants order n connected there = (connected, slice_within order n.at.taken (subst IsSome (next_event order n.at.taken) there))
 
 -- the group gave no event
 pub event_failed : (before now : List Event) (old : Seat) (given : GroupFault) → now ≡ before → IsKept before old → is_connected old.node.at.phase ≡ true
     → group_cause.AtNoMemory (IsSome (event_at before (old.node.at.taken + 1))) given → Failed act.Take before now old old (step_fault given)
-event_failed before now old given is kept connected wants =
-    take_failed before now old old (step_fault given) is (record { plain = refl; seated = λ order s. s }) kept (by_fault given wants)
+event_failed before now old given is kept connected there =
+    take_failed before now old old (step_fault given) is (record { plain = refl; seated = λ order s. s }) kept (by_fault given there)
   where
     by_fault : (g : GroupFault) → group_cause.AtNoMemory (IsSome (event_at before (old.node.at.taken + 1))) g
-        → AtNoMemory (TakeWants (plain_of old.node) × IsSome (event_at before (old.node.at.taken + 1))) (step_fault g)
-    by_fault group.Failed h = tt
-    by_fault group.NoMemory h = (connected, h)
+        → MayFail before (plain_of old.node) act.Take (step_fault g)
+    by_fault group.Failed h = connected
+    by_fault group.NoMemory h = take_wants before (plain_of old.node) connected h
 
 pub order_failed : (before now : List Event) (old : Seat) (e : StepFault) (m : Message) → now ≡ before → IsKept before old
     → oldest old.node.queue.outbox ≡ Some m → Failed act.Order before now old old e
 order_failed before now old e m is kept some = record {
   next = act.Order;
   left = (refl, is, refl);
-  wants = at_any (0 < length old.node.queue.outbox) e (some_waits old.node.queue.outbox m some);
+  may = may_order now (plain_of old.node) e (some_waits old.node.queue.outbox m some);
   goes = goes_same before now old is kept;
 }
 
@@ -370,9 +368,6 @@ module _ (a : Act) (before now : List Event) (seats : List Seat) (i : ℕ) (old 
         (stopped_by a (i + 1) before now (nodes_of seats) (plain_of old.node) (plain_of new.node) failed.next
         (ap (slice_get (nodes_of seats)) same ∙ at_nodes seats i old there) failed.left))
 
-    pub step_failed : LeftBy a (i + 1) (cluster_of before (nodes_of seats)) (cluster_of now (nodes_of (set seats i new)))
-    step_failed = (failed.next, stopped)
-
     node_is : slice_get (nodes_of (set seats i new)) ((i + 1) - 1) ≡ Some (plain_of new.node)
     node_is =
         let same : (i + 1) - 1 ≡ i = omega arith in
@@ -380,10 +375,8 @@ module _ (a : Act) (before now : List Event) (seats : List Seat) (i : ℕ) (old 
         ∙ ap (λ ns. slice_get ns i) (set_nodes seats i new)
         ∙ there_after (nodes_of seats) i (plain_of old.node) (plain_of new.node) (at_nodes seats i old there)
 
-    pub step_wanted : AtNoMemory (WantedBy a (i + 1) (cluster_of before (nodes_of seats)) (cluster_of now (nodes_of (set seats i new)))) e
-    step_wanted =
-        at_map (Wants now (plain_of new.node) failed.next)
-        (WantedBy a (i + 1) (cluster_of before (nodes_of seats)) (cluster_of now (nodes_of (set seats i new)))) e (λ wants. (failed.next, stopped, subst (λ o. WantsAt now o failed.next) (sym node_is) wants)) failed.wants
+    pub step_failed : FailedBy a (i + 1) (cluster_of before (nodes_of seats)) (cluster_of now (nodes_of (set seats i new))) e
+    step_failed = (failed.next, stopped, subst (λ o. MayFailAt now o failed.next e) (sym node_is) failed.may)
 
 -- ---- answers
 pub if_ok : {A E : Type 0} (P Q : A → Type 0) (r : Result A E) → ((x : A) → P x → Q x) → IfOk r P → IfOk r Q
@@ -430,14 +423,9 @@ module _ {A : Type 0} (c d m : ModelCluster) (at : ℕ) (step : Step) (r : Resul
   numbered : at + 1 ≡ step.node
   numbered = omega (arith, is, first)
 
-  pub cluster_failed : OnErr r (LeftBy step.act (at + 1) c m) → OnErr r (LeftBy step.act step.node d m)
+  pub cluster_failed : IfErr r (FailedBy step.act (at + 1) c m) → IfErr r (FailedBy step.act step.node d m)
   cluster_failed left =
-      subst (λ k. OnErr r (LeftBy step.act k d m)) numbered (subst (λ k. OnErr r (LeftBy step.act (at + 1) k m)) same left)
-
-  pub cluster_wanted : IfErr r (AtNoMemory (WantedBy step.act (at + 1) c m)) → IfErr r (AtNoMemory (WantedBy step.act step.node d m))
-  cluster_wanted wanted =
-      subst (λ k. IfErr r (AtNoMemory (WantedBy step.act k d m))) numbered
-      (subst (λ k. IfErr r (AtNoMemory (WantedBy step.act (at + 1) k m))) same wanted)
+      subst (λ k. IfErr r (FailedBy step.act k d m)) numbered (subst (λ k. IfErr r (FailedBy step.act (at + 1) k m)) same left)
 
 pub first_counts : (queue : List Message) → min (length queue) 1 ≡ orders_of queue
 first_counts [] = omega arith

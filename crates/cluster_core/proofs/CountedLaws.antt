@@ -1,9 +1,6 @@
 -- How much a cluster has given out after a step.
 use Rattle.std.proofs.Common.{◌≡◌, ℕ, zero, suc, ◌+◌, ◌-◌, ◌≤◌, ◌<◌, ◌^◌, List, [], ◌∷◌, ◌++◌, length, Bool, true, false, cond, None, Some, refl, sym, ap, subst, ◌∙◌, arith, Option, Result, Ok, Err, length-append}
-use Rattle.std.specs.Prelude.{◌≢◌, slice_get, map, replicate, option_and_then, IfOk, IfSome, OnErr, OnOk, IsTrue}
-use Rattle.std.specs.Str.{bytes_eq}
-use Rattle.uuid.specs.Text.{parsed}
-use Rattle.wsrep_base.specs.StateId.{id_of, nil_id, not_nil}
+use Rattle.std.specs.Prelude.{slice_get, map, replicate, IfOk, IfErr, OnOk, IsTrue}
 use Rattle.std.specs.List.{AllByRecursion}
 use Rattle.std.proofs.lemmas.List.{length-map}
 use Rattle.std.specs.Ordering.{nat_cmp}
@@ -17,9 +14,6 @@ use Rattle.order_event.specs.declared.step.Act.TheVariants as act
 use Rattle.order_event.specs.declared.step.Answer.{Answer}
 use Rattle.order_event.specs.declared.step.Step.{Step}
 use Rattle.group_order.specs.Order.{event_of, up_to}
-use Rattle.group_order.specs.Causes.{HasCause}
-use Rattle.group_order.specs.declared.fault.GroupFault.{GroupFault}
-use Rattle.group_order.specs.declared.fault.GroupFault.TheVariants as group
 use Rattle.node_meaning.specs.Node.{ModelNode, start_node}
 use Rattle.node_meaning.specs.Steps.{sent_out, first_sent, commit_next, all_taken, all_certified}
 use Rattle.node_meaning.specs.Cluster.{ModelCluster, start_cluster, set_at, order_first, step_of, step_at, cluster_step, will_order}
@@ -27,9 +21,10 @@ use Rattle.node_laws.specs.Sizes.{node_size, sizes, cluster_size}
 use Rattle.node_laws.proofs.Counts.{Grows}
 use Rattle.node_laws.proofs.StepCounts.{sent_out_grows, take_grows, certify_grows, start_grows, finish_grows, advance_grows}
 use Rattle.node_laws.proofs.ClusterLaws.{cluster_grows, sizes-set, set_count, start_sizes}
+use Rattle.cluster_core.specs.declared.fault.StepFault.{StepFault}
 use Rattle.cluster_core.specs.State.{CanGoOn}
-use Rattle.cluster_core.specs.Steps.{after_acts, all_sent, commit_acts, certified_acts, taken_acts, sent_acts, drain_acts, drain_acts_of, StoppedAt, LeftBy}
-use Rattle.cluster_core.specs.Counted.{node_given, nodes_given, given, IsCounted}
+use Rattle.cluster_core.specs.Steps.{after_acts, all_sent, commit_acts, certified_acts, taken_acts, sent_acts, drain_acts, drain_acts_of, StoppedAt, FailedBy}
+use Rattle.cluster_core.specs.Counted.{node_given, nodes_given, given}
 use Rattle.cluster_core.proofs.ActLaws.{length-up_to}
 
 -- ---- the greatest of all nodes
@@ -188,11 +183,11 @@ module _ (old new : ModelCluster) (step : Step) where
   after : (x : Answer) → (x, new) ≡ cluster_step old step → (cluster_step old step).1 ≡ new
   after x is = sym (ap (λ (p : Answer × ModelCluster). p.1) is)
 
-  pub given_after : {E : Type 0} (r : Result Answer E) → Done r → OnErr r (LeftBy step.act step.node old new) → given new ≤ given old + 1
+  pub given_after : (r : Result Answer StepFault) → Done r → IfErr r (FailedBy step.act step.node old new) → given new ≤ given old + 1
   given_after (Ok x) ok err = subst (λ c. given c ≤ given old + 1) (after x ok) (step_given old step)
   given_after (Err e) ok err = omega (arith, (stopped_stays step.act step.node old new err.0 err.1).given)
 
-  pub nodes_after : {E : Type 0} (r : Result Answer E) → Done r → OnErr r (LeftBy step.act step.node old new) → length new.nodes ≡ length old.nodes
+  pub nodes_after : (r : Result Answer StepFault) → Done r → IfErr r (FailedBy step.act step.node old new) → length new.nodes ≡ length old.nodes
   nodes_after (Ok x) ok err = ap (λ (c : ModelCluster). length c.nodes) (sym (after x ok)) ∙ (cluster_grows old step).count
   nodes_after (Err e) ok err = (stopped_stays step.act step.node old new err.0 err.1).nodes
 
@@ -212,43 +207,3 @@ given_at_start nodes id = omega (arith, start_sizes id (up_to nodes), start_give
 pub nodes_at_start : (nodes : ℕ) (id : List ℕ) → length (start_cluster nodes id).nodes ≡ nodes
 unfolding start_cluster
 nodes_at_start nodes id = length-map (up_to nodes) (start_node id) ∙ length-up_to nodes
-
--- ---- a cluster that has given out no more than so much
-pub can_go_on : (most nodes : ℕ) (c : ModelCluster) → most < 2 ^ 63 → IsCounted most nodes c → given c < 2 ^ 63
-can_go_on most nodes c small counted = omega (arith, small, counted.within)
-
-pub counted_more : (most nodes : ℕ) (c : ModelCluster) → IsCounted most nodes c → IsCounted (most + 1) nodes c
-counted_more most nodes c counted = record { count = counted.count; within = omega (arith, counted.within) }
-
-pub step_counted : {E : Type 0} (most nodes : ℕ) (old new : ModelCluster) (step : Step) (r : Result Answer E)
-    → IfOk r (λ answer. (answer, new) ≡ cluster_step old step) → OnErr r (LeftBy step.act step.node old new)
-    → IsCounted most nodes old → IsCounted (most + 1) nodes new
-step_counted most nodes old new step r ok err counted = record {
-  count = nodes_after old new step r ok err ∙ counted.count;
-  within = omega (arith, given_after old new step r ok err, counted.within);
-}
-
-pub start_counted : (nodes : ℕ) (id : List ℕ) (c : ModelCluster) → c ≡ start_cluster nodes id → IsCounted 1 nodes c
-start_counted nodes id c is = record {
-  count = ap (λ (d : ModelCluster). length d.nodes) is ∙ nodes_at_start nodes id;
-  within = (let e : given c ≡ 1 = ap given is ∙ given_at_start nodes id in omega (arith, e));
-}
-
--- ---- an id
-not_nil_by : (id : List ℕ) (b : Bool) → bytes_eq id nil_id ≡ b → IfSome (cond b None (Some id)) (λ i. i ≢ nil_id)
-not_nil_by id true e = tt
-not_nil_by id false e = λ same. let f : false ≡ true = sym e ∙ ap (λ i. bytes_eq i nil_id) same in absurd cc
-
-pub id_is : (text : List ℕ) → IfSome (id_of text) (λ i. i ≢ nil_id)
-unfolding id_of
-id_is text = by_parsed (parsed text)
-  where
-    by_parsed : (o : Option (List ℕ)) → IfSome (option_and_then not_nil o) (λ i. i ≢ nil_id)
-    by_parsed None = tt
-    by_parsed (Some id) = not_nil_by id (bytes_eq id nil_id) refl
-
--- ---- a group in memory never fails
-pub cause_stays : {T : Type 0} (faults : ℕ) (r : Result T GroupFault) → HasCause 0 0 r → HasCause faults faults r
-cause_stays faults (Ok x) cause = refl
-cause_stays faults (Err group.Failed) cause = absurd (omega (arith, cause))
-cause_stays faults (Err group.NoMemory) cause = refl

@@ -18,7 +18,7 @@ use Rattle.cluster_core.specs.declared.fault.StepFault.{StepFault}
 use Rattle.cluster_core.specs.declared.fault.StepFault.TheVariants as fault
 use Rattle.cluster_core.specs.declared.seat.Seat.{Seat}
 use Rattle.cluster_core.specs.Seated.{IsSeated, SeatDone, SeatUnchanged}
-use Rattle.cluster_core.specs.Steps.{after_acts, all_sent, sent_acts, taken_acts, certified_acts, commit_acts, drain_acts, Wants, AtNoMemory}
+use Rattle.cluster_core.specs.Steps.{after_acts, all_sent, sent_acts, taken_acts, certified_acts, commit_acts, drain_acts, Wants, MayFail}
 use Rattle.cluster_core.specs.Acts.{IsKept, Goes, Acted, Failed, Runs, Stops, Halts, cluster_of}
 use Rattle.cluster_core.specs.Drain.{Sent, SentFew, Part, PartDone, Takes, TakesFew, Certifies, CertifiesFew, Commits, CommitsFew, take_next, certify_next}
 use Rattle.cluster_core.proofs.ActLaws.{goes_same, runs_none}
@@ -37,12 +37,12 @@ among_others count k a below =
 
 -- a step that was not done, by itself
 pub step_halts : (a : Act) (before now : List Event) (old new : Seat) (e : StepFault) (next : Act)
-    → (next ≡ a) × (now ≡ before) × (plain_of new.node ≡ plain_of old.node) → AtNoMemory (Wants now (plain_of new.node) next) e
+    → (next ≡ a) × (now ≡ before) × (plain_of new.node ≡ plain_of old.node) → MayFail now (plain_of new.node) next e
     → Halts (a ∷ []) before now old new e
-step_halts a before now old new e next left wants = record {
+step_halts a before now old new e next left may = record {
   next = a;
   stops = stops_none a [] before now (plain_of old.node) (plain_of new.node) left.1 left.2;
-  wants = subst (λ b. AtNoMemory (Wants now (plain_of new.node) b) e) left.0 wants;
+  may = subst (λ b. MayFail now (plain_of new.node) b e) left.0 may;
 }
 
 -- ---- parts of a drain, one after another
@@ -63,7 +63,7 @@ module _ (one other : List Act) (order : List Event) (to : ModelNode) (old middl
     halts = record {
       next = some.halts.next;
       stops = stops_later one other order order order (plain_of old.node) (plain_of middle.node) (plain_of new.node) some.halts.next part.ran some.halts.stops;
-      wants = some.halts.wants;
+      may = some.halts.may;
     };
     seated = some.seated;
   }
@@ -73,7 +73,7 @@ pub halts_first : (acts more : List Act) (before now : List Event) (old new : Se
 halts_first acts more before now old new e halts = record {
   next = halts.next;
   stops = stops_first acts more before now (plain_of old.node) (plain_of new.node) halts.next halts.stops;
-  wants = halts.wants;
+  may = halts.may;
 }
 
 pub part_fails_first : (acts more : List Act) (order : List Event) (old new : Seat) (e : StepFault) → PartDone acts order old new e
@@ -87,7 +87,7 @@ not_done a rest order old new u wants s = record {
   halts = record {
     next = a;
     stops = stops_none a rest order order (plain_of old.node) (plain_of new.node) refl u.plain;
-    wants = subst (λ n. Wants order n a) (sym u.plain) wants;
+    may = subst (λ n. Wants order n a) (sym u.plain) wants;
   };
   seated = u.seated order s;
 }
@@ -221,7 +221,7 @@ take_fails order now old new e failed = (
   failed.left.1,
   record {
     halts = subst (λ o. Halts (act.Take ∷ []) order o old new e) failed.left.1
-        (step_halts act.Take order now old new e failed.next (failed.left.0, failed.left.1, failed.left.2) failed.wants);
+        (step_halts act.Take order now old new e failed.next (failed.left.0, failed.left.1, failed.left.2) failed.may);
     seated = subst (λ o. IsSeated o new) failed.left.1 failed.goes.kept.seated;
   },
 )
@@ -281,13 +281,13 @@ pub sent_fails : (k count : ℕ) (before between now : List Event) (old middle n
     → Failed act.Order between now middle new e → SentFew count before now old new e
 sent_fails k count before between now old middle new e below sent failed =
     let halts = halts_first (act.Order ∷ []) (replicate (count - k - 1) act.Order) between now middle new e
-    (step_halts act.Order between now middle new e failed.next (failed.left.0, failed.left.1, failed.left.2) failed.wants) in
+    (step_halts act.Order between now middle new e failed.next (failed.left.0, failed.left.1, failed.left.2) failed.may) in
     record {
       halts = subst (λ acts. Halts acts before now old new e) (sym (among_others count k act.Order below)) (record {
         next = halts.next;
         stops = stops_later (replicate k act.Order) (act.Order ∷ replicate (count - k - 1) act.Order) before between now
             (plain_of old.node) (plain_of middle.node) (plain_of new.node) halts.next sent.ran halts.stops;
-        wants = halts.wants;
+        may = halts.may;
       });
       goes = goes_then before between now middle new sent.goes failed.goes;
     }
@@ -326,7 +326,7 @@ drain_not_sent count before now old new e counts few = record {
   left = stops_first (replicate (length old.node.queue.outbox) act.Order) (sent_acts (all_sent before (plain_of old.node))) before now
       (plain_of old.node) (plain_of new.node) few.halts.next
       (subst (λ k. Stops (replicate k act.Order) before now (plain_of old.node) (plain_of new.node) few.halts.next) counts few.halts.stops);
-  wants = few.halts.wants;
+  may = few.halts.may;
   goes = few.goes;
 }
 
@@ -355,7 +355,7 @@ module _ (count : ℕ) (before now : List Event) (old middle : Seat) (counts : c
             (sym (acts_sent ∙ ap (λ xs. replicate count act.Order ++ xs) are))
             (stops_later (replicate count act.Order) (acts ++ more) before now now (plain_of old.node) (plain_of middle.node) (plain_of new.node)
             halts.next sent.ran halts.stops);
-        wants = halts.wants;
+        may = halts.may;
         goes = record {
           more = sent.goes.more;
           grown = sent.goes.grown;

@@ -17,7 +17,6 @@ use Rattle.order_event.specs.declared.event.Event.{Event}
 use Rattle.order_event.specs.declared.step.Act.TheVariants as act
 use Rattle.order_event.specs.declared.step.Answer.{Answer}
 use Rattle.order_event.specs.declared.step.Answer.TheVariants as answer
-use Rattle.cert_meaning.specs.declared.items.CommitItem.{CommitItem}
 use Rattle.node_meaning.specs.declared.progress.Stage.TheVariants.{Started as StartedStage}
 use Rattle.node_meaning.specs.Node.{ModelNode, ApplyUnit, rows_at, start_node}
 use Rattle.node_meaning.specs.Client.{client}

@@ -12,7 +12,7 @@ use Rattle.node_core.specs.Stands.{plain_of}
 use Rattle.cluster_core.specs.declared.seat.Seat.{Seat}
 use Rattle.cluster_core.specs.Seated.{IsSeated}
 use Rattle.cluster_core.specs.declared.fault.StepFault.{StepFault}
-use Rattle.cluster_core.specs.Steps.{after_acts, drain_acts, Wants, AtNoMemory}
+use Rattle.cluster_core.specs.Steps.{after_acts, drain_acts, MayFail}
 
 -- the seat stands over the order, and the members of each view can be counted
 pub record IsKept (order : List Event) (seat : Seat) : Type 0 where
@@ -46,11 +46,11 @@ pub record Stops (acts : List Act) (before now : List Event) (old new : ModelNod
   pub front : acts ≡ done ++ next ∷ rest
   pub ran : Runs done before now old new
 
--- and where it wanted memory it may want it there
+-- and it may come to this fault there
 pub record Halts (acts : List Act) (before now : List Event) (old new : Seat) (fault : StepFault) : Type 0 where
   pub next : Act
   pub stops : Stops acts before now (plain_of old.node) (plain_of new.node) next
-  pub wants : AtNoMemory (Wants now (plain_of new.node) next) fault
+  pub may : MayFail now (plain_of new.node) next fault
 
 -- all is as it was, and for a drain as the steps before this one leave it
 abbrev pub Left : Act → List Event → List Event → ModelNode → ModelNode → Act → Type 0
@@ -61,7 +61,7 @@ Left other before now old new next = (next ≡ other) × (now ≡ before) × (ne
 pub record Failed (a : Act) (before now : List Event) (old new : Seat) (fault : StepFault) : Type 0 where
   pub next : Act
   pub left : Left a before now (plain_of old.node) (plain_of new.node) next
-  pub wants : AtNoMemory (Wants now (plain_of new.node) next) fault
+  pub may : MayFail now (plain_of new.node) next fault
   pub goes : Goes before now new
 
 -- all seats of a cluster stand over the order

@@ -17,8 +17,3 @@ nodes_given (n ∷ ns) = max (node_given n) (nodes_given ns)
 -- that, or the events, the messages that wait and the live transactions together: the greater
 unfoldable pub given : ModelCluster → ℕ
 given c = max (cluster_size c) (nodes_given c.nodes)
-
--- a cluster of so many nodes, which has given out no more than that
-pub record IsCounted (most nodes : ℕ) (c : ModelCluster) : Type 0 where
-  pub count : length c.nodes ≡ nodes
-  pub within : given c ≤ most

@@ -1,10 +1,10 @@
--- what a step of a cluster leaves where it could not be done, and where it may want memory
-use Rattle.std.specs.Prelude.{◌≡◌, ◌≤◌, ◌<◌, ℕ, zero, suc, ◌+◌, ◌-◌, List, [], ◌∷◌, ◌++◌, length, map, replicate, slice_get, Option, Some, None, Result, MatchResult}
+-- what a step of a cluster leaves where it could not be done, and where it may come to a fault
+use Rattle.std.specs.Prelude.{◌≡◌, ◌≤◌, ◌<◌, ℕ, zero, suc, ◌+◌, ◌-◌, List, [], ◌∷◌, ◌++◌, length, map, replicate, slice_get, Option, Some, None, Result, MatchResult, IsTrue}
 use Rattle.order_event.specs.declared.event.Event.{Event}
 use Rattle.order_event.specs.declared.step.Act.{Act}
 use Rattle.order_event.specs.declared.step.Act.TheVariants as act
 use Rattle.group_order.specs.Order.{event_of}
-use Rattle.node_meaning.specs.Node.{ModelNode}
+use Rattle.node_meaning.specs.Node.{ModelNode, is_connected}
 use Rattle.node_meaning.specs.Steps.{commit_next, all_taken, all_certified}
 use Rattle.node_meaning.specs.Cluster.{ModelCluster, cluster_step}
 use Rattle.node_core.specs.Memory.{CallWants, TakeWants, CertifyWants, StartWants}
@@ -65,11 +65,14 @@ abbrev pub StoppedAt : Act → ℕ → ModelCluster → ModelCluster → Act →
 StoppedAt act.Drain node old new next = DrainedTo node old new next
 StoppedAt other node old new next = (next ≡ other) × (new ≡ old)
 
-abbrev pub LeftBy : Act → ℕ → ModelCluster → ModelCluster → Type 0
-LeftBy a node old new = (next : Act) × StoppedAt a node old new next
+-- ---- where a step of a node may come to a fault
+-- to a fault of the group, where it asks the group: ordering a message that waits, and taking, where the node is connected
+abbrev pub Asks : ModelNode → Act → Type 0
+Asks n act.Order = 0 < length n.outbox
+Asks n act.Take = IsTrue (is_connected n.at.phase)
+Asks n other = ⊥
 
--- ---- want of memory
--- where a step of a node may want memory; finishing and committing never do
+-- to want of memory; finishing and committing never do
 abbrev pub Wants : List Event → ModelNode → Act → Type 0
 Wants order n (act.Client session call) = CallWants n session call
 Wants order n act.Order = 0 < length n.outbox
@@ -78,18 +81,18 @@ Wants order n act.Certify = CertifyWants n
 Wants order n (act.Start number) = StartWants order n number
 Wants order n other = ⊥
 
-abbrev pub WantsAt : List Event → Option ModelNode → Act → Type 0
-WantsAt order None a = ⊥
-WantsAt order (Some n) a = Wants order n a
+abbrev pub MayFail : List Event → ModelNode → Act → StepFault → Type 0
+MayFail order n a fault.Group = Asks n a
+MayFail order n a fault.NoMemory = Wants order n a
 
--- the step that could not be done may want memory there
-abbrev pub WantedBy : Act → ℕ → ModelCluster → ModelCluster → Type 0
-WantedBy a node old new = (next : Act) × StoppedAt a node old new next × WantsAt new.order (slice_get new.nodes (node - 1)) next
+abbrev pub MayFailAt : List Event → Option ModelNode → Act → StepFault → Type 0
+MayFailAt order None a e = ⊥
+MayFailAt order (Some n) a e = MayFail order n a e
 
--- what holds where memory is wanted
-abbrev pub AtNoMemory : Type 0 → StepFault → Type 0
-AtNoMemory need fault.Group = Unit {0}
-AtNoMemory need fault.NoMemory = need
+-- what a step that came to a fault leaves; the step that could not be done may come to that fault there
+abbrev pub FailedBy : Act → ℕ → ModelCluster → ModelCluster → StepFault → Type 0
+FailedBy a node old new e =
+    (next : Act) × StoppedAt a node old new next × MayFailAt new.order (slice_get new.nodes (node - 1)) next e
 
 -- ---- causes
 abbrev pub fault_cause : ℕ → ℕ → StepFault → Type 0

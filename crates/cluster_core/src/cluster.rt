@@ -1,4 +1,4 @@
-ghost use Rattle.std.specs.Prelude.{◌≡◌, ◌≢◌, ◌≤◌, ◌<◌, ◌+◌, ◌^◌, length, IfOk, IfErr, OnOk, OnErr, IsTrue};
+ghost use Rattle.std.specs.Prelude.{◌≡◌, ◌≢◌, ◌≤◌, ◌<◌, ◌+◌, ◌^◌, length, IfOk, IfErr, OnOk, IsTrue};
 ghost use Rattle.wsrep_base.specs.StateId.{nil_id};
 ghost use Rattle.order_event.specs.Fits.{step_fits};
 ghost use Rattle.group_order.specs.Order.{start_order};
@@ -44,7 +44,7 @@ impl<G: Group> Model for Cluster<G> {
 impl<G: Group> Cluster<G> {
     ghost use Rattle.cluster_core.specs.State.{end_at, end_rows};
     ghost use Rattle.cluster_core.specs.Counted.{given};
-    ghost use Rattle.cluster_core.specs.Steps.{has_session, LeftBy, WantedBy, AtNoMemory, HasGroupCause};
+    ghost use Rattle.cluster_core.specs.Steps.{has_session, FailedBy, HasGroupCause};
 
     /// So many nodes at their start, over a group at its start. The size of the ring of events, in
     /// bytes, is not used yet.
@@ -77,11 +77,11 @@ impl<G: Group> Cluster<G> {
         requires events { length self.old.model.order + will_order self.old.model step.now ≤ 500_000 }
         requires counts { given self.old.model < 2 ^ 63 }
         ensures ok { IfOk result (λ answer. (answer, self.new.model) ≡ cluster_step self.old.model step.now) }
-        ensures err { OnErr result (LeftBy step.now.act step.now.node self.old.model self.new.model) }
+        // It stopped at a step that may come to this fault, and left what was done before it.
+        ensures err { IfErr result (FailedBy step.now.act step.now.node self.old.model self.new.model) }
         ensures cause { HasGroupCause self.old.faults self.new.faults result }
         // The count is that of a group, so it never rises where no group of the type fails.
         ensures group { (g : G) × (self.new.faults ≡ G.faults g) }
-        ensures memory { IfErr result (AtNoMemory (WantedBy step.now.act step.now.node self.old.model self.new.model)) }
         ensures counts { given self.new.model ≤ given self.old.model + 1 }
         ensures nodes { length self.new.model.nodes ≡ length self.old.model.nodes }
         ensures events { OnOk result (length self.new.model.order ≡ length self.old.model.order + will_order self.old.model step.now) }

@@ -54,7 +54,8 @@ impl Seat {
         requires session { (1 ≤ session) × (session ≤ 32) }
         requires names { IsTrue (call_fits call.now) }
         requires counts { CanGoOn (plain_of self.old.node) }
-        ensures ok { IfOk result (SeatDoes (λ order n. node_step order n (act.Client session call.now)) self.old self.new) }
+        ensures ok { IfOk result (SeatDoes
+            (λ order n. node_step order n (act.Client session call.now)) self.old self.new) }
         ensures err { OnErr result (SeatUnchanged self.old self.new) }
         ensures memory { OnErr result (CallWants (plain_of self.old.node) session call.now) }
     {
@@ -78,7 +79,8 @@ impl Seat {
     /// The next event that was taken is certified.
     pub(crate) fn certify(&mut self) -> Result<Answer, NoMemory>
         requires seated { IsSomewhere self.old }
-        ensures ok { IfOk result (SeatDoes (λ order n. node_step order n act.Certify) self.old self.new) }
+        ensures ok { IfOk result
+            (SeatDoes (λ order n. node_step order n act.Certify) self.old self.new) }
         ensures err { OnErr result (SeatUnchanged self.old self.new) }
         ensures memory { OnErr result (CertifyWants (plain_of self.old.node)) }
     {
@@ -89,9 +91,11 @@ impl Seat {
     /// The unit of the commit with this number is started, and its work done.
     pub(crate) fn start(&mut self, number: u64) -> Result<Answer, NoMemory>
         requires seated { IsSomewhere self.old }
-        ensures ok { IfOk result (SeatDoes (λ order n. node_step order n (act.Start number)) self.old self.new) }
+        ensures ok { IfOk result
+            (SeatDoes (λ order n. node_step order n (act.Start number)) self.old self.new) }
         ensures err { OnErr result (SeatUnchanged self.old self.new) }
-        ensures memory { OnErr result ((order : List Ordered) → IsSeated order self.old → StartWants order (plain_of self.old.node) number) }
+        ensures memory { OnErr result ((order : List Ordered) → IsSeated order self.old →
+            StartWants order (plain_of self.old.node) number) }
     {
         self.make_room(number)?;
         let started = self.node.start(number)?;
@@ -100,9 +104,11 @@ impl Seat {
 
     // Makes room for the work of the unit, where it can start.
     fn make_room(&mut self, number: u64) -> Result<(), NoMemory>
-        ensures room { OnOk result ((order : List Ordered) → IsSeated order self.old → StartWants order (plain_of self.old.node) number → 0 < spare self.new.done) }
+        ensures room { OnOk result ((order : List Ordered) → IsSeated order self.old →
+            StartWants order (plain_of self.old.node) number → 0 < spare self.new.done) }
         ensures same { SeatUnchanged self.old self.new }
-        ensures memory { OnErr result ((order : List Ordered) → IsSeated order self.old → StartWants order (plain_of self.old.node) number) }
+        ensures memory { OnErr result ((order : List Ordered) → IsSeated order self.old →
+            StartWants order (plain_of self.old.node) number) }
     {
         if self.node.can_start(number) {
             self.done.reserve(1)?;
@@ -113,7 +119,8 @@ impl Seat {
     /// The work of the unit with this number is given to the node.
     pub(crate) fn finish(&mut self, number: u64) -> Answer
         requires seated { IsSomewhere self.old }
-        ensures { SeatDoes (λ order n. node_step order n (act.Finish number)) self.old self.new result }
+        ensures { SeatDoes (λ order n. node_step order n (act.Finish number))
+            self.old self.new result }
     {
         let Some(done) = self.done.remove(&number) else {
             return Answer::NoUnit(number);

@@ -1,11 +1,11 @@
-ghost use Rattle.std.specs.Prelude.{◌≡◌, ◌≤◌, ◌<◌, ◌+◌, length, slice_get, Some, IfOk, IfErr, OnErr, IsTrue};
+ghost use Rattle.std.specs.Prelude.{◌≡◌, ◌≤◌, ◌<◌, ◌+◌, length, slice_get, Some, IfOk, IfErr, IsTrue};
 ghost use Rattle.order_event.specs.declared.step.Act.TheVariants as act;
 ghost use Rattle.order_event.specs.Fits.{act_fits};
 ghost use Rattle.node_meaning.specs.Node.{ModelNode};
 ghost use Rattle.node_meaning.specs.Cluster.{node_orders, orders_at, step_at};
 ghost use Rattle.node_core.specs.Stands.{plain_of};
 ghost use Rattle.cluster_core.specs.State.{CanGoOn};
-ghost use Rattle.cluster_core.specs.Steps.{has_session, LeftBy, WantedBy, AtNoMemory, HasGroupCause};
+ghost use Rattle.cluster_core.specs.Steps.{has_session, FailedBy, HasGroupCause};
 ghost use Rattle.cluster_core.specs.Acts.{IsKept, AreKept, Acted, Failed, cluster_of, nodes_of};
 
 use crate::drain::drain;
@@ -28,10 +28,8 @@ pub(crate) fn step_at<G: Group>(
     requires counts { (n : ModelNode) → slice_get (nodes_of seats.old.items) at ≡ Some n → CanGoOn n }
     ensures ok { IfOk result (λ answer. (answer, cluster_of (G.order group.new) (nodes_of seats.new.items))
         ≡ step_at (cluster_of (G.order group.old) (nodes_of seats.old.items)) at (slice_get (nodes_of seats.old.items) at) act.now) }
-    ensures err { OnErr result (LeftBy act.now (at + 1) (cluster_of (G.order group.old) (nodes_of seats.old.items))
+    ensures err { IfErr result (FailedBy act.now (at + 1) (cluster_of (G.order group.old) (nodes_of seats.old.items))
         (cluster_of (G.order group.new) (nodes_of seats.new.items))) }
-    ensures memory { IfErr result (AtNoMemory (WantedBy act.now (at + 1) (cluster_of (G.order group.old) (nodes_of seats.old.items))
-        (cluster_of (G.order group.new) (nodes_of seats.new.items)))) }
     ensures kept { AreKept (G.order group.new) seats.new.items }
     ensures cause { HasGroupCause (G.faults group.old) (G.faults group.new) result }
 {

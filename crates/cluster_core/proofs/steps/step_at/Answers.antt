@@ -1,6 +1,6 @@
 -- What the step does to the one seat it does to the cluster.
 use Rattle.cluster_core.specs.Acts.{Acted}
-use Rattle.cluster_core.proofs.ActLaws.{item_there, step_done, step_failed, step_wanted, kept_set, if_ok, if_err, on_err, goes_by}
+use Rattle.cluster_core.proofs.ActLaws.{item_there, step_done, step_failed, kept_set, if_ok, if_err, goes_by}
 use Rattle.cluster_core.proofs.steps.step_at.Goals as goal
 
 pub returns-clause-ok : goal.returns-clause-ok
@@ -12,15 +12,8 @@ returns-clause-ok g c =
 
 pub returns-clause-err : goal.returns-clause-err
 returns-clause-err g c =
-    on_err _ _ c.step_on.result
-    (step_failed c.args.act.now (g.G.Group.order c.args.group.now) (g.G.Group.order c.step_on.new.group) c.args.seats.now.items c.args.at
-    c.index_mut.result.now c.step_on.new.seat (item_there c.args.seats.now.items c.args.at c.index_mut.result.now c.requires.at c.index_mut.ensures.value))
-    c.step_on.ensures.err
-
-pub returns-clause-memory : goal.returns-clause-memory
-returns-clause-memory g c =
     if_err _ _ c.step_on.result
-    (step_wanted c.args.act.now (g.G.Group.order c.args.group.now) (g.G.Group.order c.step_on.new.group) c.args.seats.now.items c.args.at
+    (step_failed c.args.act.now (g.G.Group.order c.args.group.now) (g.G.Group.order c.step_on.new.group) c.args.seats.now.items c.args.at
     c.index_mut.result.now c.step_on.new.seat (item_there c.args.seats.now.items c.args.at c.index_mut.result.now c.requires.at c.index_mut.ensures.value))
     c.step_on.ensures.err
 

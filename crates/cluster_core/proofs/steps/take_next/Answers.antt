@@ -5,11 +5,12 @@ use Rattle.order_event.specs.declared.step.Act.TheVariants as act
 use Rattle.order_event.specs.Spelling.{HasFewMembers}
 use Rattle.group_order.specs.Causes as cause
 use Rattle.group_order.specs.Order.{event_at}
-use Rattle.node_core.specs.Memory.{TakeWants}
 use Rattle.node_core.specs.Stands.{plain_of}
+use Rattle.cluster_core.specs.declared.fault.StepFault.TheVariants as fault
 use Rattle.cluster_core.specs.Faults.{step_fault}
+use Rattle.cluster_core.specs.Steps.{MayFail}
 use Rattle.cluster_core.specs.Acts.{Failed}
-use Rattle.cluster_core.proofs.ActLaws.{take_acted, take_nothing, take_not_connected, take_failed, event_failed, next_event, all_at, at_any, err_any, err_by}
+use Rattle.cluster_core.proofs.ActLaws.{take_acted, take_nothing, take_not_connected, take_failed, take_wants, event_failed, next_event, all_at, err_by}
 use Rattle.cluster_core.proofs.steps.take_next.Goals as goal
 
 pub returns-then-not-is_connected-clause-ok : goal.returns-then-not-is_connected-clause-ok
@@ -36,11 +37,12 @@ pub returns-in_err-take-in-Some-clause-err : goal.returns-in_err-take-in-Some-cl
 returns-in_err-take-in-Some-clause-err g c =
     let there : Some c.in-Some.event ≡ event_at (g.G.Group.order c.args.group.now) (c.args.seat.now.node.at.taken + 1) =
     sym c.in-Some.is ∙ c.in_ok-event.ensures.ok ∙ ap (λ k. event_at (g.G.Group.order c.args.group.now) (k + 1)) c.taken.ensures in
-    err_any _ c.from_residual-in_err-take-in-Some.result (λ e.
+    err_by _ _ c.from_residual-in_err-take-in-Some.result c.from_residual-in_err-take-in-Some.ensures.1 (λ e from.
+    let none : e ≡ fault.NoMemory = cc in
     take_failed (g.G.Group.order c.args.group.now) (g.G.Group.order c.event.new.self) c.args.seat.now c.take.new.self e c.event.ensures.order
     c.in_err-take-in-Some.ensures.err c.requires.kept
-    (at_any (TakeWants (plain_of c.args.seat.now.node) × IsSome (event_at (g.G.Group.order c.args.group.now) (c.args.seat.now.node.at.taken + 1))) e
-    (c.in_err-take-in-Some.ensures.memory, sym (ap is_some there))))
+    (subst (MayFail (g.G.Group.order c.args.group.now) (plain_of c.args.seat.now.node) act.Take) (sym none)
+    (take_wants (g.G.Group.order c.args.group.now) (plain_of c.args.seat.now.node) c.in_err-take-in-Some.ensures.memory (sym (ap is_some there)))))
 
 pub returns-in_ok-take-in-Some-clause-ok : goal.returns-in_ok-take-in-Some-clause-ok
 returns-in_ok-take-in-Some-clause-ok g c =

@@ -3,7 +3,7 @@ use Rattle.std.proofs.Common.{ap, sym, subst, refl, ◌-◌, ◌<◌, ◌^◌}
 use Rattle.cluster_core.specs.State.{ClusterState}
 use Rattle.cluster_core.specs.Acts.{cluster_of, nodes_of}
 use Rattle.cluster_core.specs.Counted.{given}
-use Rattle.cluster_core.proofs.ActLaws.{if_ok, cluster_done, cluster_failed, cluster_wanted}
+use Rattle.cluster_core.proofs.ActLaws.{if_ok, cluster_done, cluster_failed}
 use Rattle.cluster_core.proofs.CountedLaws.{node_goes_on, given_after, nodes_after, events_after}
 use Rattle.cluster_core.proofs.cluster.Cluster.step.Goals as goal
 
@@ -29,12 +29,6 @@ returns-clause-err g c =
     cluster_failed (cluster_of (g.G.Group.order c.self.inside.group) (nodes_of c.self.inside.seats.items)) c.args.self.now.model
     (cluster_of (g.G.Group.order c.step_at.new.group) (nodes_of c.step_at.new.seats.items)) (c.from-at.result - 1) c.args.step.now c.step_at.result
     (ap (λ (v : ClusterState). v.model) c.self.view_is) (ap (λ k. k - 1) c.from-at.ensures) c.requires.node.0 c.step_at.ensures.err
-
-pub returns-clause-memory : goal.returns-clause-memory
-returns-clause-memory g c =
-    cluster_wanted (cluster_of (g.G.Group.order c.self.inside.group) (nodes_of c.self.inside.seats.items)) c.args.self.now.model
-    (cluster_of (g.G.Group.order c.step_at.new.group) (nodes_of c.step_at.new.seats.items)) (c.from-at.result - 1) c.args.step.now c.step_at.result
-    (ap (λ (v : ClusterState). v.model) c.self.view_is) (ap (λ k. k - 1) c.from-at.ensures) c.requires.node.0 c.step_at.ensures.memory
 
 pub returns-clause-counts : goal.returns-clause-counts
 returns-clause-counts g c =
