@@ -1,5 +1,5 @@
 -- how reading from a source adds up, and what a whole run is
-use Rattle.std.proofs.Common.{◌≡◌, ℕ, List, [], ◌++◌, refl, sym, ap, ◌∙◌, append_assoc, subst, inl, inr}
+use Rattle.std.proofs.Common.{◌≡◌, ℕ, List, [], ◌++◌, refl, sym, ap, ◌∙◌, append_assoc, length-append, subst, inl, inr, arith}
 use Rattle.std.specs.Prelude.{Option, Some, None}
 use Rattle.std.specs.Io.KnownBytes.{Appends, Keeps, Consumes, IsAtEnd}
 use Rattle.std.proofs.lemmas.List.{append-nil}
@@ -9,9 +9,9 @@ use Rattle.galera_run.specs.declared.fault.RunFault.{RunFault}
 use Rattle.galera_run.specs.declared.fault.RunFault.TheVariants as stop
 use Rattle.galera_run.specs.declared.script.Script.{Script}
 use Rattle.galera_run.specs.Lines.{last_line, no_line}
-use Rattle.galera_run.specs.Reading.{Told, Run, start, run_told, run_of, text_so_far, first_text, fault}
+use Rattle.galera_run.specs.Reading.{Told, Run, start, front, run_told, run_of, told_so_far, first_text, fault}
 use Rattle.galera_run.specs.Writing.{AppendsFront}
-use Rattle.galera_run.specs.Feeding.{told_by, Stops, Halts, Reads, ReadsRefused, ReadsCut, ReadsHalted, ReadStops}
+use Rattle.galera_run.specs.Feeding.{told_by, IsSound, Stops, Halts, Reads, ReadsRefused, ReadsCut, ReadsHalted, ReadStops}
 use Rattle.galera_run.specs.Outcome.{TellsAll, TellsRefusal, TellsRead, TellsFirst, EndStops, RunTells, RunStops}
 use Rattle.galera_run.proofs.Writes.{appends_both}
 use Rattle.galera_run.proofs.Readings.{feeds_nothing, feeds_both, feeds_refuses, feeds_cuts, front_later, front_of_more, halts_later, halts_there}
@@ -31,7 +31,7 @@ consumes_both (Some xs) (Some ys) (Some zs) x y p q = p ∙ ap (λ z. x ++ z) q 
 
 -- a read that gave nothing
 pub reads_nothing : (a b : Option (List ℕ)) (s : Script) (w : Option (List ℕ)) → Keeps a b → Reads a b s s w w
-reads_nothing a b s w k = record { taken = []; consumed = keeps_consumes a b k; feeds = feeds_nothing s w }
+reads_nothing a b s w k = record { taken = []; consumed = keeps_consumes a b k; feeds = feeds_nothing s w; count = omega arith }
 
 pub reads_both : (a b c : Option (List ℕ)) (s t r : Script) (u v w : Option (List ℕ)) → Reads a b s t u v →
     Reads b c t r v w → Reads a c s r u w
@@ -39,6 +39,7 @@ reads_both a b c s t r u v w p q = record {
   taken = p.taken ++ q.taken;
   consumed = consumes_both a b c p.taken q.taken p.consumed q.consumed;
   feeds = feeds_both s t r p.taken q.taken u v w p.feeds q.feeds;
+  count = omega (arith, p.count, q.count, length-append p.taken q.taken);
 }
 
 refused_then : (a b c : Option (List ℕ)) (s t : Script) (u v w : Option (List ℕ)) (n : ℕ) (e : ScriptCause) →
@@ -68,7 +69,7 @@ halted_then a b c s t u v w p q = record {
 pub reads_stop : (a b c : Option (List ℕ)) (s t : Script) (u v w : Option (List ℕ)) (f : RunFault) →
     Reads a b s t u v → ReadStops b c t v w f → ReadStops a c s u w f
 reads_stop a b c s t u v w (stop.Script n e) p q = refused_then a b c s t u v w n e p q
-reads_stop a b c s t u v w stop.Read p q = (q.0, reads_both a b c s t q.0 u v w p q.1)
+reads_stop a b c s t u v w stop.Read p q = (q.0, reads_both a b c s t q.0 u v w p q.1, q.2)
 reads_stop a b c s t u v w stop.Write p q = cut_then a b c s t u v w p q
 reads_stop a b c s t u v w stop.NoMemory p q = halted_then a b c s t u v w p q
 
@@ -148,18 +149,27 @@ cut_run input ys u w r =
     subst P (sym r.consumed)
     (front_of_more u w (told_by last_line first (r.taken ++ ys)).text _ (r.cuts ys))
 
--- the text of the lines whose newline was read
-read_run : (a b : Option (List ℕ)) (s : Script) (u w : Option (List ℕ)) → Reads a b first s u w → TellsRead a b u w
-unfolding text_so_far
-read_run a b s u w r =
-    let same : told_by no_line first r.taken ≡ told_by no_line first (r.taken ++ []) =
-    ap (told_by no_line first) (sym (append-nil r.taken)) in
+-- the text of the lines whose newline was read; where they came to is a place
+read_run : (a b : Option (List ℕ)) (s : Script) (u w : Option (List ℕ)) → Reads a b first s u w → IsSound s → TellsRead a b u w
+unfolding told_so_far
+read_run a b s u w r sound =
+    let told : told_by no_line first r.taken ≡ front r.feeds.text (told_by no_line s []) =
+    ap (told_by no_line first) (sym (append-nil r.taken)) ∙ r.feeds.goes_on.rest no_line [] in
     let text : (told_by no_line first r.taken).text ≡ r.feeds.text =
-    ap (λ (t : Told). t.text) (same ∙ r.feeds.goes_on.rest no_line []) ∙ append-nil r.feeds.text in
-    record { taken = r.taken; read = r.consumed; written = rw text r.feeds.written }
+    ap (λ (t : Told). t.text) told ∙ append-nil r.feeds.text in
+    record {
+      taken = r.taken;
+      is_read = record {
+        read = r.consumed;
+        within = (let count = r.count in let room = sound.room in omega (arith, count, room));
+        at = s.place;
+        not_refused = ap (λ (t : Told). t.reached) told;
+      };
+      written = rw text r.feeds.written;
+    }
 
 pub run_stops : (a b : Option (List ℕ)) (u w : Option (List ℕ)) (f : RunFault) → ReadStops a b first u w f → RunStops a b u w f
-run_stops a b u w stop.Read r = read_run a b r.0 u w r.1
+run_stops a b u w stop.Read r = read_run a b r.0 u w r.1 r.2
 run_stops None b u w (stop.Script n e) r = tt
 run_stops None b u w stop.Write r = tt
 run_stops None b u w stop.NoMemory r = tt

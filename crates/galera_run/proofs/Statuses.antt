@@ -21,7 +21,7 @@ refusal_cuts (Some input) u v w n c t f =
 pub unread_cuts : (a b u v w : Option (List ℕ)) → TellsRead a b u v → AppendsFront v w read_text → CutsUnread a b u w
 unread_cuts a b u v w t f = record {
   taken = t.taken;
-  read = t.read;
+  is_read = t.is_read;
   written = front_later u v w (text_so_far t.taken) read_text t.written f;
 }
 

@@ -97,6 +97,7 @@ pub record Reads (left_old left_new : Option (List ℕ)) (before after : Script)
   pub taken : List ℕ
   pub consumed : Consumes left_old left_new taken
   pub feeds : Feeds before after taken old new
+  pub count : read_count after ≡ read_count before + length taken
 
 -- and was refused there
 pub record ReadsRefused (left_old left_new : Option (List ℕ)) (before : Script) (old new : Option (List ℕ)) (number : ℕ) (c : ScriptCause) : Type 0 where
@@ -119,7 +120,7 @@ pub record ReadsHalted (left_old left_new : Option (List ℕ)) (before : Script)
 -- how a run over a source may stop before its end
 abbrev pub ReadStops : Option (List ℕ) → Option (List ℕ) → Script → Option (List ℕ) → Option (List ℕ) → RunFault → Type 0
 ReadStops left_old left_new before old new (stop.Script number c) = ReadsRefused left_old left_new before old new number c
-ReadStops left_old left_new before old new stop.Read = (after : Script) × Reads left_old left_new before after old new
+ReadStops left_old left_new before old new stop.Read = (after : Script) × Reads left_old left_new before after old new × IsSound after
 ReadStops left_old left_new before old new stop.Write = ReadsCut left_old left_new before old new
 ReadStops left_old left_new before old new stop.NoMemory = ReadsHalted left_old left_new before old new
 

@@ -1,12 +1,13 @@
 -- what the top calls promise of a run over a source and a sink
-use Rattle.std.specs.Prelude.{◌≡◌, ◌⊎◌, ℕ, List, length, Option, IfSome}
+use Rattle.std.specs.Prelude.{◌≡◌, ◌≤◌, ◌⊎◌, ℕ, List, length, Option, IfSome}
 use Rattle.std.specs.Io.KnownBytes.{Appends, Consumes, Keeps}
 use Rattle.script_text.specs.declared.line.ScriptCause.{ScriptCause}
 use Rattle.node_meaning.specs.Cluster.{ModelCluster}
 use Rattle.galera_run.specs.declared.fault.RunFault.{RunFault}
 use Rattle.galera_run.specs.declared.fault.RunFault.TheVariants as stop
 use Rattle.galera_run.specs.declared.fault.Finished.{Finished}
-use Rattle.galera_run.specs.Reading.{Told, Run, finished, refused, run_told, run_of, first_text, text_so_far}
+use Rattle.galera_run.specs.declared.place.Place.{Place}
+use Rattle.galera_run.specs.Reading.{Told, place, Run, finished, refused, run_told, run_of, first_text, told_so_far, text_so_far, most_bytes}
 use Rattle.galera_run.specs.Writing.{IsFrontOf, AppendsFront}
 
 -- the run comes to the end of its input, with so many steps and events
@@ -38,10 +39,17 @@ pub record TellsFirst (input : List ℕ) (old new : Option (List ℕ)) : Type 0 
   pub written : Appends old new (first_text count input)
   pub is_front : IsFrontOf (first_text count input) (run_of input).text
 
--- these bytes were read, and the text of their lines was written
+-- these bytes were read, no more than are allowed, and none of the lines whose newline is among them is refused
+pub record IsRead (left_old left_new : Option (List ℕ)) (taken : List ℕ) : Type 0 where
+  pub read : Consumes left_old left_new taken
+  pub within : length taken ≤ most_bytes
+  pub at : Place
+  pub not_refused : (told_so_far taken).reached ≡ place at
+
+-- so many were, and the text of their lines was written
 pub record TellsRead (left_old left_new old new : Option (List ℕ)) : Type 0 where
   pub taken : List ℕ
-  pub read : Consumes left_old left_new taken
+  pub is_read : IsRead left_old left_new taken
   pub written : Appends old new (text_so_far taken)
 
 -- the run over the bytes left came to their end, and its whole text was written

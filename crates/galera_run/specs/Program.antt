@@ -1,6 +1,6 @@
 -- what the program writes, and what each exit status says
 use Rattle.std.specs.Prelude.{◌≡◌, ◌≤◌, ◌⊎◌, ℕ, List, [], ◌∷◌, ◌++◌, codes, Option, IfSome}
-use Rattle.std.specs.Io.KnownBytes.{Appends, Consumes, IsAtEnd}
+use Rattle.std.specs.Io.KnownBytes.{Appends, IsAtEnd}
 use Rattle.outside_io.specs.Outside.{Rose}
 use Rattle.script_text.specs.declared.line.ScriptCause.{ScriptCause}
 use Rattle.script_text.specs.declared.line.ScriptCause.TheVariants as cause
@@ -8,7 +8,7 @@ use Rattle.report_text.specs.Texts.{spaced}
 use Rattle.galera_run.specs.declared.fault.Finished.{Finished}
 use Rattle.galera_run.specs.Reading.{Ending, finished, refused, run_of, text_so_far}
 use Rattle.galera_run.specs.Writing.{AppendsFront}
-use Rattle.galera_run.specs.Outcome.{TellsAll, TellsFirst}
+use Rattle.galera_run.specs.Outcome.{TellsAll, TellsFirst, IsRead}
 
 -- the words are the command
 abbrev pub IsSteps : List (List ℕ) → Type 0
@@ -38,7 +38,7 @@ abbrev pub printed_of : List ℕ → List ℕ
 printed_of input = (run_of input).text ++ last_text (run_of input).ending
 
 -- how many faults the source and the sink counted, before and after: the source's count rose at status 3, the sink's at 4, and
--- neither at any other; there is no other than these
+-- neither at any other; there is no other than these. Whether the source's count rose at 4 is said with what went out
 abbrev pub HasCauses : ℕ → ℕ → ℕ → ℕ → ℕ → Type 0
 HasCauses status source_old source_new sink_old sink_new =
     (((status ≤ 2) ⊎ (status ≡ 6)) × (source_new ≡ source_old) × (sink_new ≡ sink_old))
@@ -72,23 +72,23 @@ pub record IsRefusal (input : List ℕ) (old new : Option (List ℕ)) : Type 0 w
 abbrev pub TellsRefused : Option (List ℕ) → Option (List ℕ) → Option (List ℕ) → Type 0
 TellsRefused left old new = IfSome left (λ input. IsRefusal input old new)
 
--- these bytes were read; the text of their lines was written, and that the source failed
+-- bytes were read, none of whose lines is refused; their text was written, and that the source failed
 pub record TellsUnread (left_old left_new old new : Option (List ℕ)) : Type 0 where
   pub taken : List ℕ
-  pub read : Consumes left_old left_new taken
+  pub is_read : IsRead left_old left_new taken
   pub written : Appends old new (text_so_far taken ++ read_text)
 
 -- a front of that was written
 pub record CutsUnread (left_old left_new old new : Option (List ℕ)) : Type 0 where
   pub taken : List ℕ
-  pub read : Consumes left_old left_new taken
+  pub is_read : IsRead left_old left_new taken
   pub written : AppendsFront old new (text_so_far taken ++ read_text)
 
 -- a front of the whole text was written
 abbrev pub CutsText : Option (List ℕ) → Option (List ℕ) → Option (List ℕ) → Type 0
 CutsText left old new = IfSome left (λ input. AppendsFront old new (printed_of input))
 
--- what went out is a front of the text of the run, which ends where the source fails
+-- what went out is a front of the text of the run, which ends where the source fails; the source's count rose there alone
 abbrev pub CutsRun : Option (List ℕ) → Option (List ℕ) → ℕ → ℕ → Option (List ℕ) → Option (List ℕ) → Type 0
 CutsRun left_old left_new before now old new =
-    CutsText left_old old new ⊎ (Rose before now × CutsUnread left_old left_new old new)
+    ((now ≡ before) × CutsText left_old old new) ⊎ (Rose before now × CutsUnread left_old left_new old new)

@@ -149,6 +149,10 @@ run_of bytes = run_told (told_from start (lines_of bytes))
 unfoldable pub first_text : ℕ → List ℕ → List ℕ
 first_text count bytes = (told_from start (take count (lines_of bytes))).text
 
--- what the lines print whose newline is among the bytes
-unfoldable pub text_so_far : List ℕ → List ℕ
-text_so_far bytes = (told_from start (whole_lines bytes)).text
+-- the run over the lines whose newline is among the bytes
+unfoldable pub told_so_far : List ℕ → Told
+told_so_far bytes = told_from start (whole_lines bytes)
+
+-- what they print
+abbrev pub text_so_far : List ℕ → List ℕ
+text_so_far bytes = (told_so_far bytes).text

@@ -25,17 +25,20 @@ pub fn galera_steps<S: Source, K: Sink>(
     out: &mut K,
 ) -> u8
     // Which count of faults rose, and that there is no other status.
-    ensures cause { HasCauses result (S.faults input.old) (S.faults input.new) (K.faults out.old) (K.faults out.new) }
+    ensures cause { HasCauses result (S.faults input.old) (S.faults input.new)
+        (K.faults out.old) (K.faults out.new) }
     ensures finished { result ≡ 0 → IsSteps (map string_bytes words.now)
         × TellsEnd (S.left input.old) (S.left input.new) (K.written out.old) (K.written out.new) }
-    // The words are no command: both directions.
+    // The words are no command: both directions. Nothing is read.
     ensures usage { (result ≡ 1 → ¬ IsSteps (map string_bytes words.now))
-        × ((¬ IsSteps (map string_bytes words.now)) → EndsUsage result (K.written out.old) (K.written out.new)) }
+        × ((¬ IsSteps (map string_bytes words.now)) →
+        EndsUsage result (K.written out.old) (K.written out.new) × (input.new ≡ input.old)) }
     ensures script { result ≡ 2 → IsSteps (map string_bytes words.now)
         × TellsRefused (S.left input.old) (K.written out.old) (K.written out.new) }
     ensures read { result ≡ 3 → IsSteps (map string_bytes words.now)
-        × TellsUnread (S.left input.old) (S.left input.new) (K.written out.old) (K.written out.new) }
-    // What went out is a front of the text.
+        × TellsUnread (S.left input.old) (S.left input.new)
+        (K.written out.old) (K.written out.new) }
+    // What went out is a front of the text. The source's count rose where it ends with `READ`.
     ensures cut { result ≡ 4 → IsSteps (map string_bytes words.now)
         → CutsRun (S.left input.old) (S.left input.new) (S.faults input.old) (S.faults input.new)
         (K.written out.old) (K.written out.new) }
@@ -62,14 +65,19 @@ fn is_steps(words: &[String]) -> bool
 
 // Runs the schedule, and writes the last line where it stops.
 fn do_steps<S: Source, K: Sink>(alloc: Global, input: &mut S, out: &mut K) -> u8
-    ensures cause { HasCauses result (S.faults input.old) (S.faults input.new) (K.faults out.old) (K.faults out.new) }
-    ensures finished { result ≡ 0 → TellsEnd (S.left input.old) (S.left input.new) (K.written out.old) (K.written out.new) }
-    ensures no_usage { result ≢ 1 }
-    ensures script { result ≡ 2 → TellsRefused (S.left input.old) (K.written out.old) (K.written out.new) }
-    ensures read { result ≡ 3 → TellsUnread (S.left input.old) (S.left input.new) (K.written out.old) (K.written out.new) }
-    ensures cut { result ≡ 4 → CutsRun (S.left input.old) (S.left input.new) (S.faults input.old) (S.faults input.new)
+    ensures cause { HasCauses result (S.faults input.old) (S.faults input.new)
+        (K.faults out.old) (K.faults out.new) }
+    ensures finished { result ≡ 0 → TellsEnd (S.left input.old) (S.left input.new)
         (K.written out.old) (K.written out.new) }
-    ensures memory { result ≡ 6 → TellsLines (S.left input.old) (K.written out.old) (K.written out.new) }
+    ensures no_usage { result ≢ 1 }
+    ensures script { result ≡ 2 →
+        TellsRefused (S.left input.old) (K.written out.old) (K.written out.new) }
+    ensures read { result ≡ 3 → TellsUnread (S.left input.old) (S.left input.new)
+        (K.written out.old) (K.written out.new) }
+    ensures cut { result ≡ 4 → CutsRun (S.left input.old) (S.left input.new)
+        (S.faults input.old) (S.faults input.new) (K.written out.old) (K.written out.new) }
+    ensures memory { result ≡ 6 →
+        TellsLines (S.left input.old) (K.written out.old) (K.written out.new) }
 {
     match run_steps(alloc, input, out) {
         Ok(_) => 0,
@@ -84,8 +92,10 @@ fn do_steps<S: Source, K: Sink>(alloc: Global, input: &mut S, out: &mut K) -> u8
 fn end_refused<K: Sink>(alloc: Global, line: u64, cause: ScriptCause, out: &mut K) -> u8
     ensures cause { EndsAs 2 result (K.faults out.old) (K.faults out.new)
         ⊎ ((result ≡ 6) × (K.faults out.new ≡ K.faults out.old)) }
-    ensures written { result ≡ 2 → Appends (K.written out.old) (K.written out.new) (refusal_text line cause) }
-    ensures cut { result ≡ 4 → AppendsFront (K.written out.old) (K.written out.new) (refusal_text line cause) }
+    ensures written { result ≡ 2 →
+        Appends (K.written out.old) (K.written out.new) (refusal_text line cause) }
+    ensures cut { result ≡ 4 →
+        AppendsFront (K.written out.old) (K.written out.new) (refusal_text line cause) }
     ensures memory { result ≡ 6 → Keeps (K.written out.old) (K.written out.new) }
 {
     match refusal_line(alloc, line, cause) {
