@@ -7,7 +7,7 @@ use Rattle.node_gate.specs.declared.view.Turn.{Turn}
 use Rattle.node_gate.specs.declared.view.View.{View}
 use Rattle.node_gate.specs.History.{entries_of, turns_of, StartsWith}
 use Rattle.node_gate.specs.Views.{taking, done}
-use Rattle.node_gate.specs.Plays.{with_lock, Lent, Adds}
+use Rattle.node_gate.specs.Plays.{with_lock, Lent, Adds, MayReturn}
 use Rattle.node_gate.specs.Calls.{Known, known, after_turn, IsLent, AddsOnly, TookTurn}
 
 pub risen : (top n a b : ℕ) → top ≡ a → n ≡ b → a ≤ b → top ≤ n
@@ -51,11 +51,13 @@ module _ {C E M : Type 0} (entries : C → List E) (count : List E → ℕ) (mar
       (p : Lent entries count mark may m2.0 before)
       (e3 : m3 ≡ (taking m2.0 p.log n, (0, None) ∷ []))
       (e4 : m4 ≡ (record m3.0 { published = n' }, m3.1)) where
-    -- what is put back adds to the history that the seat has seen
+    -- what is put back has the seat's mark, and adds to the history that the seat has seen
     pub owes : AddsOnly entries mark (may v.number) before after
-        → (added : List E) × Adds entries may m4.0 after added
+        → MayReturn entries mark may m4.0 after
     owes changed = let h = held m m1 m2 m3 m4 k t p.log n n' e1 e2 e3 e4 in
         let added : List E = changed.added in (
+          ap (λ x. x.mark) h ∙ (lent_of gate m m1 m2 k t before e1 e2 p).marked
+              ∙ ap Some (sym changed.kept),
           added,
           (
             changed.adds ∙ ap (λ xs. xs ++ added) p.has
@@ -64,10 +66,6 @@ module _ {C E M : Type 0} (entries : C → List E) (count : List E → ℕ) (mar
                 changed.allowed,
           ),
         )
-
-    pub owes_mark : mark after ≡ mark before → m4.0.mark ≡ Some (mark after)
-    owes_mark kept = ap (λ x. x.mark) (held m m1 m2 m3 m4 k t p.log n n' e1 e2 e3 e4)
-        ∙ (lent_of gate m m1 m2 k t before e1 e2 p).marked ∙ ap Some (sym kept)
 
     -- the turn is in the history
     pub turned : {R : Type 0} (call : C → R → C → Type 0) (r : R) (gate' : TableId)

@@ -7,9 +7,9 @@ use Rattle.node_gate.specs.declared.view.View.{View}
 use Rattle.node_gate.specs.History.{entries_of, turns_of, with_turn, StartsWith, Allowed}
 use Rattle.node_gate.specs.Views.{numbers}
 
--- What a seat knows between calls: its gate, its number, how many seats were split off it, the seats
--- that it took in, the turns that it has seen, its own turns, the greatest number that it has seen
--- published, the numbers that it has loaded, and the mark of the gate's value.
+-- What a seat knows between calls: its gate, its number, how many seats were split off it, the
+-- seats that it took in, the turns that it has seen, its own turns, the greatest number that it has
+-- seen published, the numbers that it has loaded, and the mark of the gate's value.
 pub record Known (E M : Type 0) : Type 0 where
   pub gate : TableId
   pub number : ℕ
@@ -58,8 +58,8 @@ module _ {E M : Type 0} where
     published = n;
   }
 
-  -- The first seat took the other in: it has seen a history that begins with what both had seen, and
-  -- keeps the number and the turns of the other.
+  -- The first seat took the other in: it has seen a history that begins with what both had seen,
+  -- and keeps the number and the turns of the other.
   pub record TookIn (v other w : Known E M) : Type 0 where
     pub log : List (Turn E)
     pub begins : StartsWith log v.seen
@@ -71,8 +71,9 @@ module _ {E M : Type 0} where
     }
 
 -- The value that is lent has the history's entries. The history begins with all that the seat had
--- seen, and in it the seat's turns are its own; each entry is one that its seat may add. The value's
--- number is not below what the seat has seen published, and its mark is the one that the gate began with.
+-- seen, and in it the seat's turns are its own; each entry is one that its seat may add. The
+-- value's number is not below what the seat has seen published, and its mark is the one that the
+-- gate began with.
 pub record IsLent {C E M : Type 0} (entries : C → List E) (count : List E → ℕ) (mark : C → M)
     (may : ℕ → E → Type 0) (v : Known E M) (c : C) : Type 0 where
   pub log : List (Turn E)
@@ -103,9 +104,9 @@ pub record TookTurn {C E M R : Type 0} (entries : C → List E) (count : List E 
   pub changed : AddsOnly entries mark (may v.number) before after
   pub now : w ≡ after_turn v lent.log changed.added (count (entries after))
 
--- The value has the entries of the history, which begins with all that the first seat had seen, and
--- its mark. The first seat and each that it took in made in it exactly their own turns, and no other
--- seat made one; each entry is one that its seat may add.
+-- The value has the entries of the history, which begins with all that the first seat had seen,
+-- and its mark. The first seat and each that it took in made in it exactly their own turns, and no
+-- other seat made one; each entry is one that its seat may add.
 pub record Ended {C E M : Type 0} (entries : C → List E) (mark : C → M) (may : ℕ → E → Type 0)
     (v : Known E M) (c : C) : Type 0 where
   pub log : List (Turn E)

@@ -1,4 +1,5 @@
--- The history of a gate: a list of turns, each with the number of its seat and the entries that it added.
+-- The history of a gate: a list of turns, each with the number of its seat and the entries that it
+-- added.
 use Rattle.std.specs.Prelude.{◌≡◌, ℕ, ◌==◌, All, List, [], ◌∷◌, ◌++◌, filter}
 use Rattle.std.specs.List.{flat_map}
 use Rattle.node_gate.specs.declared.view.Turn.{Turn}

@@ -18,7 +18,8 @@ module _ {E M : Type 0} where
   IsGone views n = (v : View E M) × (get_elem? views n ≡ some v) × (v.lock ≡ Gone)
 
   -- what the seat i knows of the history is so
-  pub record Fits (log : List (Turn E)) (views : List (View E M)) (i : ℕ) (v : View E M) : Type 0 where
+  pub record Fits (log : List (Turn E)) (views : List (View E M)) (i : ℕ) (v : View E M)
+      : Type 0 where
     pub own : turns_of i log ≡ v.own
     pub saw : StartsWith log v.seen
     pub heard : StartsWith log v.told
@@ -39,7 +40,8 @@ module _ {E M : Type 0} where
     pub known : All (λ t. t.seat < length views) log
     pub holding : All HoldsInTurn views
 
--- No seat holds the value, and the slot has it, with the entries of the history and the gate's mark.
+-- No seat holds the value, and the slot has it, with the entries of the history and the gate's
+-- mark.
 -- Its number is published.
 pub record AtHome {C E M : Type 0} (entries : C → List E) (count : List E → ℕ) (mark : C → M)
     (its : M) (shown : ℕ) (log : List (Turn E)) (homes : List (maybe.Option (Option C)))

@@ -56,7 +56,8 @@ module _ {S E M : Type 0} where
   abbrev pub published : Step S → Me S (View E M) → ℕ → Me S (View E M) → Type 0
   published st m n m' = m' ≡ (record m.0 { published = n }, m.1)
 
-  -- the seat's list of loads grows by the number found, which is not below what it had seen published
+  -- the seat's list of loads grows by the number found, which is not below what it had seen
+  -- published
   abbrev pub read : Step S → Me S (View E M) → ℕ → Me S (View E M) → Type 0
   read st m n m' = (m' ≡ (loaded m.0 n, m.1)) × (m.0.published ≤ n)
 
@@ -66,8 +67,9 @@ module _ {S E M : Type 0} where
       × StartsWith log v.seen × StartsWith log other.seen
 
 -- The value that is lent has the history's entries. The history begins with all that the seat had
--- seen, and in it the seat's turns are its own; each entry is one that its seat may add. The value's
--- number is not below what the seat has seen published, and its mark is the one that the seat knows.
+-- seen, and in it the seat's turns are its own; each entry is one that its seat may add. The
+-- value's number is not below what the seat has seen published, and its mark is the one that the
+-- seat knows.
 pub record Lent {C E M : Type 0} (entries : C → List E) (count : List E → ℕ) (mark : C → M)
     (may : ℕ → E → Type 0) (v : View E M) (c : C) : Type 0 where
   pub log : List (Turn E)
@@ -84,14 +86,22 @@ abbrev pub Adds : {C E M : Type 0} → (C → List E) → (ℕ → E → Type 0)
 Adds entries may v c added =
     (entries c ≡ entries_of v.seen ++ added) × All (may v.number) added
 
+-- the value may be given back: it has the seat's mark, and such entries
+abbrev pub MayReturn : {C E M : Type 0} → (C → List E) → (C → M) → (ℕ → E → Type 0) → View E M → C
+    → Type 0
+MayReturn {E = E} entries mark may v c =
+    (v.mark ≡ Some (mark c)) × (added : List E) × Adds entries may v c added
+
 module _ {C E M : Type 0} (entries : C → List E) (count : List E → ℕ) (mark : C → M)
     (may : ℕ → E → Type 0) where
   -- the seat takes the value, whose number is published
-  abbrev pub took : Step (Option C) → Me (Option C) (View E M) → ℕ → Me (Option C) (View E M) → Type 0
+  abbrev pub took : Step (Option C) → Me (Option C) (View E M) → ℕ → Me (Option C) (View E M)
+      → Type 0
   took st m n m' = (c : C) × (l : Lent entries count mark may m.0 c)
       × (m' ≡ (taking m.0 l.log (count (entries c)), (0, Some c) ∷ m.1))
 
   -- the seat gives the value back, and its turn is in the history
-  abbrev pub gave : Step (Option C) → Me (Option C) (View E M) → ℕ → Me (Option C) (View E M) → Type 0
+  abbrev pub gave : Step (Option C) → Me (Option C) (View E M) → ℕ → Me (Option C) (View E M)
+      → Type 0
   gave st m n m' = (added : List E) × (m' ≡ (done m.0 added, rest m.1))
       × ((c : C) × (m.1 ≡ (0, Some c) ∷ []) × Adds entries may m.0 c added)

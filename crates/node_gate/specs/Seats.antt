@@ -3,7 +3,8 @@ use Rattle.std.specs.Prelude.{◌≡◌, ℕ, ◌+◌, Bool, true, false, List, 
 use mathlib.Core.Option.{some}
 use lib.ListN.{get_elem?}
 
--- whether a seat is still in use, its number, how many were split off it, and the numbers of those that it took in
+-- whether a seat is still in use, its number, how many were split off it, and the numbers of those
+-- that it took in
 pub record Rank : Type 0 where
   pub alive : Bool
   pub number : ℕ

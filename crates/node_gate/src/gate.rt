@@ -29,7 +29,8 @@ impl<C: Counted> Model for Gate<C> {
 
     ghost view = { λ g. g.table.shared.table_id };
 
-    ghost invariant = { λ g. (g.table.shared.table_id.words ≡ 3) × (g.table.shared.table_id.slots ≡ 1) };
+    ghost invariant = { λ g. (g.table.shared.table_id.words ≡ 3)
+        × (g.table.shared.table_id.slots ≡ 1) };
 }
 
 /// A seat of a gate over such a value.
@@ -66,7 +67,8 @@ impl<C: Counted> Gate<C> {
         requires first { seat.old.number ≡ 0 }
         requires room { seat.old.splits + 2 < 2 ^ 64 }
         ensures first { seat.new ≡ record seat.old { splits = seat.old.splits + 1 } }
-        ensures given { result ≡ fresh self.now (seat.old.splits + 1) seat.old.seen seat.old.published seat.old.mark }
+        ensures given { result ≡ fresh self.now (seat.old.splits + 1) seat.old.seen
+            seat.old.published seat.old.mark }
     {
         Place {
             seat: steps::cut_off::<C>(&self.table.shared, &mut seat.seat),
@@ -77,7 +79,8 @@ impl<C: Counted> Gate<C> {
     pub fn last_committed(&self, seat: &mut GateSeat<C>) -> u64
         requires serves { seat.old.gate ≡ self.now }
         ensures rises { seat.old.published ≤ result }
-        ensures read { seat.new ≡ record seat.old { published = result; loads = seat.old.loads ++ result ∷ [] } }
+        ensures read { seat.new
+            ≡ record seat.old { published = result; loads = seat.old.loads ++ result ∷ [] } }
     {
         steps::read::<C>(&self.table.shared, &mut seat.seat)
     }
@@ -90,9 +93,13 @@ impl<C: Counted> Gate<C> {
         act: F,
     ) -> R
         requires serves { seat.old.gate ≡ self.now }
-        requires callable { (c : C) → IsLent C.entries C.number C.mark C.may seat.old c → FnOnceTakesAtMut F.FnOnce act c }
-        requires adds { (c : C) (r : R) (c' : C) → IsLent C.entries C.number C.mark C.may seat.old c → FnOnceReturnsAtMut F.FnOnce act c r c' → AddsOnly C.entries C.mark (C.may seat.old.number) c c' }
-        ensures { TookTurn C.entries C.number C.mark C.may (FnOnceReturnsAtMut F.FnOnce act) seat.old result seat.new }
+        requires callable { (c : C) → IsLent C.entries C.number C.mark C.may seat.old c
+            → FnOnceTakesAtMut F.FnOnce act c }
+        requires adds { (c : C) (r : R) (c' : C) → IsLent C.entries C.number C.mark C.may seat.old c
+            → FnOnceReturnsAtMut F.FnOnce act c r c'
+            → AddsOnly C.entries C.mark (C.may seat.old.number) c c' }
+        ensures { TookTurn C.entries C.number C.mark C.may (FnOnceReturnsAtMut F.FnOnce act)
+            seat.old result seat.new }
     {
         let words = &self.table.shared;
         let seat = &mut seat.seat;

@@ -3,8 +3,8 @@ use crate::view::View;
 use atomic_table::Seat;
 use std::marker::Model;
 
-/// A seat of a gate; `GateSeat` names it by the type of the gate's value. It has no bytes. Contracts
-/// see what it knows between calls.
+/// A seat of a gate; `GateSeat` names it by the type of the gate's value. It has no bytes.
+/// Contracts see what it knows between calls.
 #[derive(Drop)]
 pub struct Place<S, E, M> {
     pub(crate) seat: Seat<S, View<E, M>>,

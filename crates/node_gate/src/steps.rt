@@ -2,7 +2,7 @@
 ghost use Rattle.std.specs.Prelude.{◌≡◌, ℕ, ◌+◌, ◌%◌, ◌^◌, ◌<◌, ◌≤◌, true, false, List, [], ◌∷◌, Some};
 ghost use Rattle.node_gate.specs.declared.view.Lock.TheVariants.{Idle, Waiting, Serving};
 ghost use Rattle.node_gate.specs.Views.{cut, another, taking, done, loaded};
-ghost use Rattle.node_gate.specs.Plays.{Serves, Stays, AtRest, with_lock, TakesIn, Lent, Adds};
+ghost use Rattle.node_gate.specs.Plays.{Serves, Stays, AtRest, with_lock, TakesIn, Lent, Adds, MayReturn};
 
 use crate::counted::Counted;
 use crate::plays::{Cut, Draw, Give, Learn, Look, Meet, Publish, Read, Release, Rule, Take};
@@ -37,7 +37,8 @@ pub(crate) fn draw<C: Counted>(words: &Words<C>, seat: &mut Holder<C>) -> u64
     requires serves { Serves seat.old.table_id words.now.table_id }
     requires idle { seat.old.me.0.lock ≡ Idle }
     ensures own { Stays seat.old seat.new }
-    ensures drew { (k : ℕ) × (result ≡ k % 2 ^ 64) × (seat.new.me ≡ with_lock (Waiting k) seat.old.me) }
+    ensures drew { (k : ℕ) × (result ≡ k % 2 ^ 64)
+        × (seat.new.me ≡ with_lock (Waiting k) seat.old.me) }
 {
     words.fetch_add::<Draw>(seat, TICKET, 1)
 }
@@ -69,7 +70,8 @@ pub(crate) fn take<C: Counted>(words: &Words<C>, seat: &mut Holder<C>) -> C
     requires turn { (k : ℕ) × (seat.old.me.0.lock ≡ Serving k) }
     requires empty { (seat.old.me.0.holds ≡ false) × (seat.old.me.1 ≡ []) }
     ensures own { Stays seat.old seat.new }
-    ensures took { (l : Lent C.entries C.number C.mark C.may seat.old.me.0 result) × (seat.new.me ≡ (taking seat.old.me.0 l.log (C.number (C.entries result)), (0, None) ∷ [])) }
+    ensures took { (l : Lent C.entries C.number C.mark C.may seat.old.me.0 result)
+        × (seat.new.me ≡ (taking seat.old.me.0 l.log (C.number (C.entries result)), (0, None) ∷ [])) }
 {
     words.load::<Take<C>>(seat, SERVING);
     words.exchange(seat, 0, None).unwrap()
@@ -81,10 +83,10 @@ pub(crate) fn give<C: Counted>(words: &Words<C>, seat: &mut Holder<C>, value: C)
     requires turn { (k : ℕ) × (seat.old.me.0.lock ≡ Serving k) }
     requires out { (seat.old.me.0.holds ≡ true) × (seat.old.me.1 ≡ (0, None) ∷ []) }
     requires shown { seat.old.me.0.published ≡ C.number (C.entries value) }
-    requires marked { seat.old.me.0.mark ≡ Some (C.mark value) }
-    requires adds { (added : List C.Entry) × Adds C.entries C.may seat.old.me.0 value added }
+    requires value { MayReturn C.entries C.mark C.may seat.old.me.0 value }
     ensures own { Stays seat.old seat.new }
-    ensures gave { (added : List C.Entry) × (seat.new.me ≡ (done seat.old.me.0 added, [])) × Adds C.entries C.may seat.old.me.0 value added }
+    ensures gave { (added : List C.Entry) × (seat.new.me ≡ (done seat.old.me.0 added, []))
+        × Adds C.entries C.may seat.old.me.0 value added }
 {
     match words.exchange(seat, 0, Some(value)) {
         None => {}
@@ -135,7 +137,8 @@ pub(crate) fn cut_off<C: Counted>(words: &Words<C>, seat: &mut Holder<C>) -> Hol
     requires room { seat.old.me.0.splits + 2 < 2 ^ 64 }
     ensures own { Stays seat.old seat.new }
     ensures left { seat.new.me ≡ (cut seat.old.me.0, []) }
-    ensures right { (result.table_id ≡ seat.old.table_id) × (result.me ≡ (another seat.old.me.0, [])) }
+    ensures right { (result.table_id ≡ seat.old.table_id)
+        × (result.me ≡ (another seat.old.me.0, [])) }
 {
     words.split_seat::<Cut>(seat)
 }

@@ -7,4 +7,5 @@ use Rattle.state_transfer.specs.declared.transfer.Plan.TheVariants.{Ist, Sst}
 abbrev pub plan_of : Bool → ℕ → Option (ℕ × ℕ) → Plan
 plan_of same position None = Sst
 plan_of same position (Some range) =
-    if same && nat_le range.0 (position + 1) && nat_le (position + 1) range.1 then Ist (position + 1) else Sst
+    if same && nat_le range.0 (position + 1) && nat_le (position + 1) range.1
+    then Ist (position + 1) else Sst

@@ -17,11 +17,12 @@ load-requires g c = let three = c.requires.serves.1 in let old = c.args.seat.now
     ∙ ap (λ xs. (old, (0, Some value) ∷ xs)) (ap rest c.requires.out.1) in (
       c.exchange.ensures.0 ∙ c.requires.serves.0,
       omega arith,
-      give_allowed _ _ _ _ _ _ _ c.requires.turn.0 value c.requires.adds.0
+      give_allowed _ _ _ _ _ _ _ c.requires.turn.0 value c.requires.value.1
           (ap (λ m. m.0.lock) now ∙ c.requires.turn.1) (ap (λ m. m.0.holds) now ∙ c.requires.out.0)
           (ap (λ m. m.1) now) (ap (λ m. m.0.published) now ∙ c.requires.shown)
-          (ap (λ m. m.0.mark) now ∙ c.requires.marked) (subst (λ v. Adds g.C.Counted.entries g.C.Counted.may v value c.requires.adds.0)
-          (sym (ap (λ m. m.0) now)) c.requires.adds.1),
+          (ap (λ m. m.0.mark) now ∙ c.requires.value.0)
+          (subst (λ v. Adds g.C.Counted.entries g.C.Counted.may v value c.requires.value.1)
+          (sym (ap (λ m. m.0) now)) c.requires.value.2),
     )
 
 pub returns : goal.returns
