@@ -242,6 +242,12 @@ refused_statements =
     ∷ (calls 1 2 call.Commit, answer.Client (reply.Committed 0))
     ∷ (calls 1 1 call.Poll, answer.Client reply.NoTrx)
     ∷ (calls 1 1 (call.Begin 0), answer.Client reply.Done)
-    ∷ (calls 1 1 (call.Insert (id_at n_acct n_max) (18446744073709551615 ∷ [])), answer.Client reply.Done)
-    ∷ (calls 1 1 (call.Read (id_at n_acct n_max)), answer.Client (reply.Row (18446744073709551615 ∷ [])))
+    ∷ (
+      calls 1 1 (call.Insert (id_at n_acct n_max) (18446744073709551615 ∷ [])),
+      answer.Client reply.Done,
+    )
+    ∷ (
+      calls 1 1 (call.Read (id_at n_acct n_max)),
+      answer.Client (reply.Row (18446744073709551615 ∷ [])),
+    )
     ∷ []

@@ -17,7 +17,10 @@ use Rattle.node_meaning.specs.Cluster.{start_cluster, cluster_step, run}
 
 -- what a worked schedule unfolds
 unfoldable pub computing_runs : Unit {0}
-unfolding computing_folds is_name spelling bytes_at number_at many_at name_at key_row_at key_at some_keys_at keys_at place_at count_at values_at columns_at some_columns_at op_at ops_at header_at finished read client take_step certify_step start_step finish_step advance_step drained start_cluster cluster_step run
+unfolding computing_folds is_name spelling bytes_at number_at many_at name_at key_row_at key_at
+    some_keys_at keys_at place_at count_at values_at columns_at some_columns_at op_at ops_at
+    header_at finished read client take_step certify_step start_step finish_step advance_step
+    drained start_cluster cluster_step run
 computing_runs = tt
 
 abbrev pub state_id : List ℕ

@@ -1,2 +1,3 @@
-//! Worked schedules: what a run of the model cluster answers, step by step; rows and their proofs, no code.
+//! Worked schedules: what a run of the model cluster answers, step by step; rows and their proofs,
+//! no code.
 #![tactic(auto)]
