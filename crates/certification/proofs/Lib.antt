@@ -1,0 +1,4 @@
+pub mod Ahead
+pub mod Certifying
+pub mod Changes
+pub mod Needed

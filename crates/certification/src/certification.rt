@@ -1,0 +1,124 @@
+ghost use Rattle.std.specs.Prelude.{◌≡◌, ◌≤◌, ◌+◌, ◌<◌, ℕ, List, Some, slice_get, IfOk, OnErr};
+ghost use Rattle.std.specs.Option.{option_copied};
+ghost use Rattle.order_event.specs.declared.event.Event.{Event as Ordered};
+ghost use Rattle.cert_meaning.specs.Fold.{set_in};
+ghost use Rattle.node_parts.specs.Passed.{AllBefore};
+ghost use Rattle.certification.specs.Certifies.{Certifies, CanCertify, IsNext, commit_with, touching_between, holder_of, changes_with, with_changes};
+
+use cert_meaning::{CommitItem, FoldState};
+use key_sets::KeySet;
+use node_parts::Passed;
+use order_event::Event;
+use row_model::OpList;
+use std::alloc::Global;
+use std::marker::Model;
+use write_set::WriteSet;
+use wsrep_base::{Judged, NoMemory, TrxId};
+
+/// What certifying an event tells.
+#[derive(Drop)]
+pub struct Certified {
+    pub judged: Judged,
+    /// The write set that the event's bytes spell. None where they spell none, and of other events.
+    pub set: Option<WriteSet>,
+}
+
+/// The certification part of a node. What it answers is told over the order that it certifies, and
+/// over the number up to which that is committed.
+#[derive(Drop)]
+pub struct Certification {
+    state: FoldState,
+    /// The changes of passed commits that are not committed.
+    passed: Passed,
+}
+
+impl Model for Certification {
+    ghost use Rattle.certification.specs.Certifies.{ModelCertification};
+
+    ghost Value = { ModelCertification };
+
+    ghost view = { λ c. record { state = c.state; dropped = 0; changes = c.passed.ops } };
+}
+
+impl Certification {
+    /// Before the first event.
+    pub fn new(alloc: Global) -> Result<Certification, NoMemory>
+        ensures { IfOk result (λ c. (order : List Ordered) → Certifies order 0 0 c) }
+    {
+        Ok(Certification {
+            state: FoldState::empty(alloc)?,
+            passed: Passed::new(alloc),
+        })
+    }
+
+    /// Certifies the next event of the order. It costs the commits above what a write set has seen.
+    pub fn certify(&mut self, event: &Event) -> Result<Certified, NoMemory>
+        requires { CanCertify self.old }
+        ensures ok { IfOk result (λ told. (order : List Ordered) (committed certified : ℕ) → Certifies order committed certified self.old
+            → committed ≤ certified → slice_get order certified ≡ Some event.now → IsNext order committed certified event.now told.judged self.new) }
+        ensures set { IfOk result (λ told. told.set ≡ set_in event.now) }
+        ensures err { OnErr result (self.new ≡ self.old) }
+    {
+        self.passed.reserve_one()?;
+        let told = self.state.step_told(event)?;
+        let number = self.state.number();
+        keep_changes(&mut self.passed, number, told.judged, told.changes);
+        Ok(Certified {
+            judged: told.judged,
+            set: told.set,
+        })
+    }
+
+    /// The number is committed, which is the next one.
+    pub fn commit(&mut self, number: u64)
+        ensures { (order : List Ordered) (committed certified : ℕ) → Certifies order committed certified self.old
+            → number ≡ committed + 1 → Certifies order number certified self.new }
+    {
+        self.passed.remove(number);
+    }
+
+    /// The passed commit with this number, which is not committed. It costs a search by halves.
+    #[tactic(auto, unfolding(crate::specs::Certifies::commit_with))]
+    pub fn commit_at(&self, number: u64) -> Option<&CommitItem>
+        ensures { option_copied result ≡ commit_with number self.now }
+    {
+        self.state.commit_at(number)
+    }
+
+    /// The greatest passed commit above what is committed and below another number whose keys
+    /// touch. It costs the commits between them, and a search by halves.
+    #[tactic(auto, unfolding(crate::specs::Certifies::touching_between))]
+    pub fn touching_between(&self, committed: u64, below: u64, keys: &KeySet) -> Option<u64>
+        ensures { result ≡ touching_between committed below keys.now self.now }
+    {
+        self.state.touching_between(committed, below, keys)
+    }
+
+    /// All changes of the passed commit with this number, which is not committed.
+    #[tactic(auto, unfolding(crate::specs::Certifies::changes_with))]
+    pub fn changes_of(&self, number: u64) -> Option<&OpList>
+        ensures { option_copied result ≡ changes_with number self.now }
+    {
+        self.passed.get(number)
+    }
+
+    /// The greatest fragment of another open transaction whose keys touch.
+    #[tactic(auto, unfolding(crate::specs::Certifies::holder_of))]
+    pub fn held_by(&self, keys: &KeySet, other_than: TrxId) -> Option<u64>
+        ensures { result ≡ holder_of other_than keys.now self.now }
+    {
+        self.state.held_by(keys, other_than)
+    }
+}
+
+// The changes of a passed commit wait there until it is committed.
+fn keep_changes(passed: &mut Passed, number: u64, judged: Judged, changes: OpList)
+    requires spare { 0 < passed.old.spare }
+    requires newest { AllBefore passed.old.ops number }
+    ensures { passed.new.ops ≡ with_changes judged passed.old.ops number changes }
+{
+    match judged {
+        Judged::Commit => passed.push(number, changes),
+        Judged::View | Judged::Report | Judged::Fragment | Judged::Rollback | Judged::Fail(_) => {}
+    }
+}
