@@ -17,9 +17,9 @@ use Rattle.order_event.specs.declared.step.Answer.{Answer}
 use Rattle.order_event.specs.declared.step.Answer.TheVariants as answer
 use Rattle.apply_unit.specs.Results.{put_all}
 use Rattle.apply_unit.specs.Task.{ModelTask}
-use Rattle.cert_meaning.specs.State.{FoldState, commit_numbered}
 use Rattle.cert_meaning.specs.declared.items.CommitItem.{CommitItem}
-use Rattle.cert_meaning.specs.Fold.{state_at}
+use Rattle.certification.specs.Certifies.{Certifies, commit_with}
+use Rattle.certification.proofs.Ahead.{commit-is}
 use Rattle.client_trx.specs.declared.status.Status.{Status}
 use Rattle.client_trx.specs.declared.status.Status.TheVariants as status
 use Rattle.client_trx.specs.Live.{Live, has_locks}
@@ -40,7 +40,7 @@ use Rattle.node_core.specs.declared.node.Node.{Node}
 use Rattle.node_core.specs.Tabled.{Tabled}
 use Rattle.node_core.specs.Advancing.{AreFree, results_of, TakesUnit, IsCommitted, AfterCommitter}
 use Rattle.node_core.proofs.KeptFacts.{facts_advanced}
-use Rattle.node_core.specs.Stands.{Stands, Tables, KeepsChanges, AreWorked, IsWorked, HasTask, DoneOver, plain_of}
+use Rattle.node_core.specs.Stands.{Stands, Tables, AreWorked, IsWorked, HasTask, DoneOver, plain_of}
 use Rattle.node_core.proofs.Tabling.{tabled_committed, tabled-ended, tabled-put, tabled-kept}
 use Rattle.node_core.proofs.CertifyCalls.{two_ways}
 use Rattle.node_core.proofs.UnitRows.{unit_free, unit_length, rows_left}
@@ -154,13 +154,11 @@ module _ (order : List Event) (old : Node) (stands : Stands order old) where
         ∙ ap (λ b. cond {A = Answer × ModelNode} b (answer.At next, committed_next (plain_of old) next) (answer.NotReady next, plain_of old)) is
 
     -- the code's reads tell whether it is ready
-    pub ready_is : is_none (commit_numbered next old.fold.commits) || is_finished (get old.units.units next) || is_local old.live next
+    pub ready_is : is_none (commit_with next old.certification) || is_finished (get old.units.units next) || is_local old.live next
         ≡ is_ready order (plain_of old) next
     ready_is =
         ap (λ b. b || is_finished (get old.units.units next) || is_local old.live next)
-        (ap (λ (s : FoldState). is_none (commit_numbered next s.commits)) stands.fold
-        ∙ ap is_none (numbered_within order next old.at.certified (omega (arith, more)) within
-        ∙ sym (passed-is order old.at.committed old.at.certified next (omega arith) (omega (arith, more)) within))
+        (ap is_none (commit-is order old.at.committed old.at.certified old.certification stands.certification next (omega arith))
         ∙ sym (not_some (passed_at order old.at.committed old.at.certified next)))
 
     pub advance_waits : is_ready order (plain_of old) next ≡ false → DoneOver order (λ n. advance_step order n) old old (answer.NotReady next)
@@ -233,24 +231,6 @@ module _ (order : List Event) (old : Node) (stands : Stands order old) where
         rows_some = two_ways (has_locks t.status) kept_locks kept_nothing
 
       -- ---- the other parts
-      passed_kept : KeepsChanges order next old.at.certified (remove old.passed.ops next)
-      passed_kept = record {
-        kept = λ number above fits is.
-            get-remove nat_cmp_total old.passed.ops next number
-            ∙ ap (λ b. cond b None (get old.passed.ops number))
-            (false_from_ne_true (eq_by_cmp nat_cmp number next) (λ tie. let same = tied numbers number next tie in absurd (omega (arith, above, same))))
-            ∙ stands.passed.kept number (omega (arith, above)) fits is;
-        only = λ number has. left_only number _ refl (sym (ap is_some (get-remove nat_cmp_total old.passed.ops next number)) ∙ has);
-      }
-        where
-          left_only : (number : ℕ) (b : Bool) → eq_by_cmp nat_cmp number next ≡ b
-              → is_some (cond b None (get old.passed.ops number)) ≡ true → (next < number) × (number ≤ old.at.certified)
-          left_only number true tie has = cc
-          left_only number false other has =
-              let was = stands.passed.only number has in
-              let apart = untied numbers number next other in
-              (less_from next number (omega (arith, was.0)) (false_from_ne_true (next == number) (λ same. apart (sym (eqb-true next number same)))), was.1)
-
       units_left : AreWorked order (without old.units next)
       units_left = record {
         worked = λ number u is.
@@ -269,7 +249,7 @@ module _ (order : List Event) (old : Node) (stands : Stands order old) where
       module _ (parts target : Node)
           (target_is : target ≡ record old {
             at = record old.at { committed = old.at.committed + 1 };
-            passed = target.passed;
+            certification = target.certification;
             units = parts.units;
             live = parts.live;
             waiting = parts.waiting;
@@ -286,7 +266,7 @@ module _ (order : List Event) (old : Node) (stands : Stands order old) where
           (locks : parts.locks.locks ≡ locks_of parts.live (remove old.units.units next))
           (rows : Tabled (rows_at order next) parts.live parts.rows)
           (spare : mid.rows.spare ≤ parts.rows.spare)
-          (passed : target.passed.ops ≡ remove old.passed.ops next) where
+          (certifies : Certifies order next old.at.certified target.certification) where
         plain_is : plain_of target ≡ committed_next (plain_of old) next
         plain_is =
             ap plain_of target_is
@@ -304,7 +284,7 @@ module _ (order : List Event) (old : Node) (stands : Stands order old) where
 
         committed_tables : Tables order (record old {
           at = record old.at { committed = old.at.committed + 1 };
-          passed = target.passed;
+          certification = target.certification;
           units = parts.units;
           live = parts.live;
           waiting = parts.waiting;
@@ -325,10 +305,8 @@ module _ (order : List Event) (old : Node) (stands : Stands order old) where
           stands = record {
             inbox = ap (λ (m : Node). m.inbox) target_is ∙ stands.inbox
                 ∙ sym (ap (λ (m : Node). drop m.at.certified (take m.at.taken order)) target_is);
-            fold = ap (λ (m : Node). m.fold) target_is ∙ stands.fold ∙ ap (state_at order) (sym certified_is);
-            passed = subst (λ (p : ℕ). KeepsChanges order p target.at.certified target.passed.ops) (sym committed_is)
-                (subst (λ (c : ℕ). KeepsChanges order next c target.passed.ops) (sym certified_is)
-                (subst (KeepsChanges order next old.at.certified) (sym passed) passed_kept));
+            certification = subst (λ (p : ℕ). Certifies order p target.at.certified target.certification) (sym committed_is)
+                (subst (λ (c : ℕ). Certifies order next c target.certification) (sym certified_is) certifies);
             tables = subst (Tables order) (sym target_is) committed_tables;
             facts = facts_advanced order old target stands (answer.At next) same;
           };
@@ -349,22 +327,23 @@ module _ (order : List Event) (old : Node) (stands : Stands order old) where
           takes.locks ∙ ap (λ l. remove l (UnitHolder next)) stands.tables.locks ∙ sym (locks_of-remove_unit old.live old.units.units next)
 
       module _ (new target : Node)
-          (target_is : target ≡ record new { at = record new.at { committed = old.at.committed + 1 }; passed = target.passed })
-          (passed : target.passed.ops ≡ remove new.passed.ops next) where
+          (target_is : target ≡ record new { at = record new.at { committed = old.at.committed + 1 }; certification = target.certification })
+          (committed : Certifies order old.at.committed old.at.certified new.certification → Certifies order next old.at.certified target.certification) where
         module _ (base : new ≡ record old { units = new.units; live = new.live; waiting = new.waiting; locks = new.locks; rows = new.rows }) where
           whole : target ≡ record old {
             at = record old.at { committed = old.at.committed + 1 };
-            passed = target.passed;
+            certification = target.certification;
             units = new.units;
             live = new.live;
             waiting = new.waiting;
             locks = new.locks;
             rows = new.rows;
           }
-          whole = target_is ∙ ap (λ (m : Node). record m { at = record m.at { committed = old.at.committed + 1 }; passed = target.passed }) base
+          whole = target_is ∙ ap (λ (m : Node). record m { at = record m.at { committed = old.at.committed + 1 }; certification = target.certification }) base
 
-          whole_passed : target.passed.ops ≡ remove old.passed.ops next
-          whole_passed = passed ∙ ap (λ (m : Node). remove m.passed.ops next) base
+          whole_certified : Certifies order next old.at.certified target.certification
+          whole_certified =
+              committed (subst (Certifies order old.at.committed old.at.certified) (sym (ap (λ (m : Node). m.certification) base)) stands.certification)
 
         done_none : committer_of old.live next ≡ None → new ≡ mid → DoneOver order (λ n. advance_step order n) old target (answer.At next)
         done_none none is =
@@ -379,7 +358,7 @@ module _ (order : List Event) (old : Node) (stands : Stands order old) where
             (subst (λ (m : Node). Tabled (rows_at order next) m.live m.rows) (sym is)
             (subst (λ l. Tabled (rows_at order next) l mid.rows) (sym mid_live) (rows_none none)))
             (omega (arith, ap (λ (m : Node). m.rows.spare) is))
-            (whole_passed base)
+            (whole_certified base)
 
         done_some : (s : ℕ) (t : Live) → committer_of old.live next ≡ Some (s, t) → IsCommitted s next mid new
             → DoneOver order (λ n. advance_step order n) old target (answer.At next)
@@ -399,7 +378,7 @@ module _ (order : List Event) (old : Node) (stands : Stands order old) where
             ∙ ap (λ l. locks_of l (remove old.units.units next)) (sym live_is))
             (subst (λ l. Tabled (rows_at order next) l new.rows) (sym live_is) (rows_some s t one new is))
             is.spare
-            (whole_passed base)
+            (whole_certified base)
 
         done_by : (o : Option (ℕ × Live)) → committer_of old.live next ≡ o → AfterCommitter o next mid new
             → DoneOver order (λ n. advance_step order n) old target (answer.At next)

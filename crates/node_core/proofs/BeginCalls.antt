@@ -11,7 +11,7 @@ use Rattle.row_model.specs.Rows.{Rows}
 use Rattle.order_event.specs.declared.event.Event.{Event}
 use Rattle.order_event.specs.declared.step.Answer.{Answer}
 use Rattle.order_event.specs.declared.step.Answer.TheVariants as answer
-use Rattle.cert_meaning.specs.Fold.{state_at}
+use Rattle.certification.specs.Certifies.{Certifies}
 use Rattle.client_trx.specs.Live.{Live}
 use Rattle.row_locks.specs.declared.holder.Holder.{Holder}
 use Rattle.row_locks.specs.declared.holder.Holder.TheVariants.{Unit as UnitHolder}
@@ -19,7 +19,6 @@ use Rattle.row_locks.specs.Holders.{same_holder}
 use Rattle.row_locks.specs.Locks.{LockState, Locks, keys_at, touching_sessions}
 use Rattle.row_locks.proofs.HolderLemmas.{holder_total}
 use Rattle.undo_rows.specs.RowTable.{RowTable}
-use Rattle.node_parts.specs.Passed.{PassedOps}
 use Rattle.node_parts.specs.Units.{Work, UnitTable, added}
 use Rattle.node_meaning.specs.declared.progress.Progress.{Progress}
 use Rattle.node_meaning.specs.declared.progress.Stage.TheVariants.{Started}
@@ -31,7 +30,7 @@ use Rattle.node_meaning.proofs.LockLaws.{lock_of_unit, keys_of_unit, get-locks_o
 use Rattle.node_core.specs.declared.node.Node.{Node}
 use Rattle.node_core.specs.Tabled.{Tabled}
 use Rattle.node_core.proofs.KeptFacts.{facts_started}
-use Rattle.node_core.specs.Stands.{KeepsChanges, AreWorked, IsWorked, DoneOver, Unchanged, plain_of}
+use Rattle.node_core.specs.Stands.{AreWorked, IsWorked, DoneOver, Unchanged, plain_of}
 use Rattle.node_core.specs.Starting.{CanStart, Aborts, IsClear, unit_locked, unit_started}
 use Rattle.node_core.proofs.UnitLocks.{unit_locks}
 
@@ -172,10 +171,8 @@ module _ (order : List Event) (old mid killed : Node) (number : ℕ) (keys : Key
       stands = record {
         inbox = kills.inbox ∙ unchanged.inbox ∙ can.stands.inbox
             ∙ ap (λ (a : Progress). drop a.certified (take a.taken order)) (sym at_is);
-        fold = kills.fold ∙ unchanged.fold ∙ can.stands.fold ∙ ap (λ (a : Progress). state_at order a.certified) (sym at_is);
-        passed = subst (λ (a : Progress). KeepsChanges order a.committed a.certified killed.passed.ops) (sym at_is)
-            (subst (KeepsChanges order old.at.committed old.at.certified) (sym (ap (λ (p : PassedOps). p.ops) kills.passed ∙ unchanged.passed))
-            can.stands.passed);
+        certification = subst (λ (a : Progress). Certifies order a.committed a.certified killed.certification) (sym at_is)
+            (subst (Certifies order old.at.committed old.at.certified) (sym (kills.certification ∙ unchanged.certification)) can.stands.certification);
         tables = record {
           locks = locks_are;
           rows = rows_are;

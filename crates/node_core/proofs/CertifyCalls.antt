@@ -127,7 +127,7 @@ module _ (old : Node) (begin number : ℕ) (v : Verdict) where
   tells n = told_verdict n number v (session_of n.live begin)
 
   stays : told_verdict (plain_of old) number v (session_of old.live begin) ≡ plain_of old → Moves tells old old
-  stays same = record { plain = sym same; inbox = refl; fold = refl; passed = refl; tables = λ order tables. tables }
+  stays same = record { plain = sym same; inbox = refl; certification = refl; tables = λ order tables. tables }
 
   -- no transaction has the number
   pub tell_none : option_map (λ e. e.0) (session_of old.live begin) ≡ None → Moves tells old old
@@ -170,8 +170,7 @@ module _ (old : Node) (begin number : ℕ) (v : Verdict) where
             subst (λ l. Moves tells old (record old { live = l })) (sym now) (record {
               plain = sym (by_status true sent ∙ ap (told (plain_of old) session) (sym judged));
               inbox = refl;
-              fold = refl;
-              passed = refl;
+              certification = refl;
               tables = λ order tables. record {
                 locks = tables.locks ∙ sym (locks_of-same old.live old.units.units session t u is same.locks same.keys);
                 rows = two_ways (has_locks t.status)
@@ -194,8 +193,7 @@ module _ (old : Node) (begin number : ℕ) (v : Verdict) where
               ∙ sym (ap plain_of is_new ∙ ap (λ l. record (plain_of old) { live = l; waiting = new.waiting }) live
               ∙ ap (λ w. record (plain_of old) { live = remove old.live session; waiting = w }) waiting));
           inbox = ap (λ (n : Node). n.inbox) is_new;
-          fold = ap (λ (n : Node). n.fold) is_new;
-          passed = ap (λ (n : Node). n.passed) is_new;
+          certification = ap (λ (n : Node). n.certification) is_new;
           tables = λ order tables. ended order tables;
         }
           where

@@ -15,7 +15,7 @@ use Rattle.order_event.specs.declared.event.Event.{Event}
 use Rattle.order_event.specs.declared.event.Message.TheVariants as message
 use Rattle.write_set.specs.Spelling.{spelling}
 use Rattle.node_parts.specs.Queue.{Queued, queued}
-use Rattle.cert_meaning.specs.Fold.{state_at}
+use Rattle.certification.specs.Certifies.{Certifies}
 use Rattle.client_trx.specs.Live.{Live, has_locks, is_running, begun, with_status, commit_of}
 use Rattle.client_trx.specs.declared.status.Status.{Status}
 use Rattle.client_trx.specs.declared.status.Status.TheVariants as status
@@ -34,19 +34,13 @@ use Rattle.node_core.proofs.Tabling.{tabled_sees, tabled_committed, tabled-ended
 
 -- ---- what a node stands for goes along where its parts do
 pub stands_by : (order : List Event) (old new : Node) → Stands order old → new.at.committed ≡ old.at.committed
-    → new.at.certified ≡ old.at.certified → new.at.taken ≡ old.at.taken → new.inbox ≡ old.inbox → new.fold ≡ old.fold
-    → new.passed.ops ≡ old.passed.ops → Tables order new → Facts order (plain_of new) → Stands order new
-stands_by order old new st committed certified taken inbox fold passed tables facts = record {
+    → new.at.certified ≡ old.at.certified → new.at.taken ≡ old.at.taken → new.inbox ≡ old.inbox
+    → new.certification ≡ old.certification → Tables order new → Facts order (plain_of new) → Stands order new
+stands_by order old new st committed certified taken inbox same tables facts = record {
   inbox = inbox ∙ st.inbox ∙ (λ i. drop (sym certified i) (take (sym taken i) order));
-  fold = fold ∙ st.fold ∙ ap (state_at order) (sym certified);
-  passed = record {
-    kept = λ number above below some.
-        ap (λ m. get m number) passed
-        ∙ st.passed.kept number (subst (λ k. k < number) committed above) (subst (λ k. number ≤ k) certified below) some;
-    only = λ number has.
-        let own = st.passed.only number (subst (λ m. IsTrue (contains_key m number)) passed has) in
-        (subst (λ k. k < number) (sym committed) own.0, subst (λ k. number ≤ k) (sym certified) own.1);
-  };
+  certification = subst (λ (p : ℕ). Certifies order p new.at.certified new.certification) (sym committed)
+      (subst (λ (c : ℕ). Certifies order old.at.committed c new.certification) (sym certified)
+      (subst (Certifies order old.at.committed old.at.certified) (sym same) st.certification));
   tables = tables;
   facts = facts;
 }
@@ -67,7 +61,7 @@ unchanged_stands order old new same st =
     let unit_room = same.unit_room in
     let more = same.room in
     stands_by order old new st (ap (λ (n : ModelNode). n.at.committed) same.plain) (ap (λ (n : ModelNode). n.at.certified) same.plain)
-    (ap (λ (n : ModelNode). n.at.taken) same.plain) same.inbox same.fold same.passed
+    (ap (λ (n : ModelNode). n.at.taken) same.plain) same.inbox same.certification
     (record {
       locks = same.locks ∙ st.tables.locks ∙ ap (λ (n : ModelNode). locks_of n.live n.units) (sym same.plain);
       rows = subst (λ (n : ModelNode). Tabled (rows_at order n.at.committed) n.live new.rows) (sym same.plain)
@@ -112,15 +106,14 @@ sees rows live table tabled session id (Some t) is free =
     ∙ ap (λ b. get (cond b (ops_on t.ops rows) rows) id) (sym locks)
 
 -- ---- a transaction ends
-pub moves_ended : (old new : Node) (s : ℕ) → plain_of new ≡ end_live (plain_of old) s → new.inbox ≡ old.inbox → new.fold ≡ old.fold
-    → new.passed ≡ old.passed → new.units ≡ old.units → new.locks.locks ≡ remove old.locks.locks (Session s)
+pub moves_ended : (old new : Node) (s : ℕ) → plain_of new ≡ end_live (plain_of old) s → new.inbox ≡ old.inbox
+    → new.certification ≡ old.certification → new.units ≡ old.units → new.locks.locks ≡ remove old.locks.locks (Session s)
     → new.rows.committed ≡ old.rows.committed → new.rows.changes ≡ without old.rows.changes s → old.rows.spare ≤ new.rows.spare
     → Moves (λ n. end_live n s) old new
-moves_ended old new s plain inbox fold passed units locks committed changes spare = record {
+moves_ended old new s plain inbox same units locks committed changes spare = record {
   plain = plain;
   inbox = inbox;
-  fold = fold;
-  passed = passed;
+  certification = same;
   tables = λ order tables.
       let had = tables.room in
       let same_room : new.units.room ≡ old.units.room = ap (λ u. u.room) units in
@@ -140,7 +133,7 @@ pub ended_stands : (order : List Event) (old new : Node) (s : ℕ) → Moves (λ
 ended_stands order old new s moves st =
     stands_by order old new st (ap (λ (n : ModelNode). n.at.committed) moves.plain)
     (ap (λ (n : ModelNode). n.at.certified) moves.plain) (ap (λ (n : ModelNode). n.at.taken) moves.plain)
-    moves.inbox moves.fold (ap (λ p. p.ops) moves.passed) (moves.tables order st.tables)
+    moves.inbox moves.certification (moves.tables order st.tables)
     (facts_ended order old new st s moves.plain)
 
 pub rolled_back : (order : List Event) (old new : Node) (s : ℕ) (o : Option Live) → get old.live s ≡ o → is_some o ≡ true
@@ -172,10 +165,10 @@ no_lock : lock_keys true empty ≡ None
 no_lock = ap (λ n. cond (n == 0) None (Some empty)) (len-empty parts_cmp Kind)
 
 pub began : (order : List Event) (old new : Node) (s : ℕ) → get old.live s ≡ None
-    → plain_of new ≡ (begin_call (plain_of old) s None).1 → new.inbox ≡ old.inbox → new.fold ≡ old.fold → new.passed ≡ old.passed
+    → plain_of new ≡ (begin_call (plain_of old) s None).1 → new.inbox ≡ old.inbox → new.certification ≡ old.certification
     → new.units ≡ old.units → new.locks ≡ old.locks → new.rows ≡ old.rows → Stands order old
     → DoneOver order (λ n. begin_call n s (get n.live s)) old new reply.Done
-began order old new s free plain inbox fold passed units locks rows st =
+began order old new s free plain inbox same units locks rows st =
     let t = begun (record { member = old.at.member; begin = old.at.begin }) 0 in
     let had = st.tables.room in
     let same_room : new.units.room ≡ old.units.room = ap (λ u. u.room) units in
@@ -184,7 +177,7 @@ began order old new s free plain inbox fold passed units locks rows st =
       same = ap (λ n. (reply.Done, n)) plain ∙ ap (begin_call (plain_of old) s) (sym free);
       stands = stands_by order old new st (ap (λ (n : ModelNode). n.at.committed) plain)
           (ap (λ (n : ModelNode). n.at.certified) plain) (ap (λ (n : ModelNode). n.at.taken) plain)
-          inbox fold (ap (λ p. p.ops) passed)
+          inbox same
           (record {
             locks =
                 ap (λ l. l.locks) locks ∙ st.tables.locks
@@ -202,10 +195,10 @@ began order old new s free plain inbox fold passed units locks rows st =
 -- ---- a commit is sent
 pub commit_sent : (order : List Event) (old new : Node) (s : ℕ) (t : Live) → get old.live s ≡ Some t → not (is_running t.status) ≡ false
     → (length t.ops == 0 && t.sent == 0) ≡ false → ProgressInRange old.at
-    → plain_of new ≡ send_commit (plain_of old) s t → new.inbox ≡ old.inbox → new.fold ≡ old.fold → new.passed ≡ old.passed
+    → plain_of new ≡ send_commit (plain_of old) s t → new.inbox ≡ old.inbox → new.certification ≡ old.certification
     → new.units ≡ old.units → new.locks ≡ old.locks → new.rows ≡ old.rows → Stands order old
     → DoneOver order (λ n. commit_call n s (get n.live s)) old new reply.Pending
-commit_sent order old new s t is running some range plain inbox fold passed units locks rows st =
+commit_sent order old new s t is running some range plain inbox same units locks rows st =
     let u = with_status t status.CommitSent in
     let locked = running_locks t.status running in
     let had = st.tables.room in
@@ -217,7 +210,7 @@ commit_sent order old new s t is running some range plain inbox fold passed unit
       same = ap (λ n. (reply.Pending, n)) plain ∙ sym taken ∙ ap (commit_call (plain_of old) s) (sym is);
       stands = stands_by order old new st (ap (λ (n : ModelNode). n.at.committed) plain)
           (ap (λ (n : ModelNode). n.at.certified) plain) (ap (λ (n : ModelNode). n.at.taken) plain)
-          inbox fold (ap (λ p. p.ops) passed)
+          inbox same
           (record {
             locks =
                 ap (λ l. l.locks) locks ∙ st.tables.locks

@@ -115,8 +115,7 @@ module _ (order : List Event) (node : Node) (done : ModelTask) (stands : Stands 
         same = same;
         stands = record {
           inbox = stands.inbox;
-          fold = stands.fold;
-          passed = stands.passed;
+          certification = stands.certification;
           tables = tables own.0 own.1;
           facts = facts_finished order node after stands done.number (answer.Finished done.number) same;
         };

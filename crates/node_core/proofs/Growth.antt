@@ -1,21 +1,20 @@
 -- A node that stands for an order stands for every order that goes on from it.
 use Rattle.std.proofs.Common.{◌≡◌, ℕ, zero, suc, ◌≤◌, List, [], ◌∷◌, ◌++◌, length, Some, refl, sym, ap, subst, ◌∙◌, arith, drop}
-use Rattle.std.specs.Prelude.{slice_get, IsTrue, is_some}
 use Rattle.std.proofs.lemmas.List.{take-append-le}
 use Rattle.order_event.specs.declared.event.Event.{Event}
 use Rattle.apply_unit.specs.Task.{task}
 use Rattle.cert_meaning.specs.State.{FoldState}
-use Rattle.cert_meaning.specs.Fold.{state_at}
 use Rattle.cert_meaning.proofs.FoldLaws.{state_at-append}
+use Rattle.certification.proofs.Certifying.{certifies_grow}
 use Rattle.node_meaning.specs.declared.progress.Stage.{Stage}
 use Rattle.node_meaning.specs.declared.progress.Stage.TheVariants as stage
 use Rattle.node_meaning.specs.Node.{ApplyUnit, rows_at}
 use Rattle.node_meaning.specs.Units.{ops_at, rows_before, unit_task, images_of, named_rows}
-use Rattle.node_meaning.proofs.GrowFacts.{facts_grow, commit_at-append, ops_at-append}
+use Rattle.node_meaning.proofs.GrowFacts.{facts_grow, ops_at-append}
 use Rattle.node_parts.specs.Units.{Work}
 use Rattle.node_core.specs.declared.node.Node.{Node}
 use Rattle.node_core.specs.Tabled.{Tabled}
-use Rattle.node_core.specs.Stands.{Stands, AreWorked, IsWorked, HasTask, KeepsChanges}
+use Rattle.node_core.specs.Stands.{Stands, AreWorked, IsWorked, HasTask}
 
 module _ (order more : List Event) where
   rows_at-append : (n : ℕ) → n ≤ length order → rows_at (order ++ more) n ≡ rows_at order n
@@ -58,21 +57,11 @@ module _ (order more : List Event) where
           (old.0, old.1, worked-append number u old.0 (omega (arith, unit.within, certified_fits)) old.2);
     }
 
-    passed-append : KeepsChanges (order ++ more) node.at.committed node.at.certified node.passed.ops
-    passed-append = record {
-      kept = λ number above within is.
-          let fits : number ≤ length order = omega (arith, within, certified_fits) in
-          st.passed.kept number above within (subst (λ c. IsTrue (is_some c)) (commit_at-append order more number fits) is)
-          ∙ ap Some (sym (ops_at-append order more number fits));
-      only = st.passed.only;
-    }
-
   -- the node stands for the longer order
   pub stands_grow : (node : Node) → Stands order node → Stands (order ++ more) node
   stands_grow node st = record {
     inbox = st.inbox ∙ ap (drop node.at.certified) (sym (take-append-le node.at.taken order more st.facts.in_order.taken_fits));
-    fold = st.fold ∙ sym (state_at-append order more node.at.certified (certified_fits node st));
-    passed = passed-append node st;
+    certification = certifies_grow order node.at.committed node.at.certified node.certification st.certification more;
     tables = record {
       locks = st.tables.locks;
       rows = subst (λ rows. Tabled rows node.live node.rows) (sym (rows_at-append node.at.committed (committed_fits node st))) st.tables.rows;

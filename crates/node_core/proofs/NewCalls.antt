@@ -13,6 +13,7 @@ use Rattle.node_meaning.specs.Node.{start_node, locks_of, rows_at}
 use Rattle.node_meaning.specs.Facts.{Facts}
 use Rattle.node_meaning.proofs.StartNode.{start_facts}
 use Rattle.node_meaning.proofs.LockLaws.{same_locks, get-locks_of-session, get-locks_of-unit, lock_of_live, lock_of_unit}
+use Rattle.certification.specs.Certifies.{Certifies}
 use Rattle.node_parts.specs.Queue.{nothing_sent}
 use Rattle.node_parts.specs.Units.{no_units}
 use Rattle.node_core.specs.declared.node.Node.{Node}
@@ -31,28 +32,20 @@ no_rows : (order : List Event) → rows_at order 0 ≡ empty
 unfolding state_at no_events
 no_rows order = refl
 
-no_fold : (order : List Event) → state_at order 0 ≡ no_events
-unfolding state_at
-no_fold order = refl
-
 module _ (order : List Event) (node : Node) (id : List ℕ) (member : ℕ) (at_is : node.at ≡ (start_node id member).at) (id_is : node.id ≡ id)
     (live : node.live ≡ empty) (waiting : node.waiting ≡ empty) (queue : node.queue ≡ nothing_sent) (units : node.units ≡ no_units) where
   plain_is : plain_of node ≡ start_node id member
   plain_is = rw (at_is, id_is, live, waiting, queue, units) refl
 
-  pub started : node.inbox ≡ [] → node.fold ≡ no_events → node.passed.ops ≡ empty → node.locks.locks ≡ empty → node.rows.committed ≡ empty
+  pub started : node.inbox ≡ [] → Certifies order 0 0 node.certification → node.locks.locks ≡ empty → node.rows.committed ≡ empty
       → node.rows.changes ≡ empty → Stands order node
-  started inbox fold passed locks committed changes =
+  started inbox certification locks committed changes =
       let committed_is : node.at.committed ≡ 0 = ap (λ (a : _). a.committed) at_is in
       let certified_is : node.at.certified ≡ 0 = ap (λ (a : _). a.certified) at_is in
       let taken_is : node.at.taken ≡ 0 = ap (λ (a : _). a.taken) at_is in
       record {
         inbox = rw (certified_is, taken_is) inbox;
-        fold = rw certified_is (fold ∙ sym (no_fold order));
-        passed = record {
-          kept = λ number above within is. absurd (omega (arith, above, within, certified_is));
-          only = λ number has. absurd (true≢false (sym has ∙ ap (λ m. is_some (get m number)) passed ∙ ap is_some (get-empty nat_cmp number)));
-        };
+        certification = rw (committed_is, certified_is) certification;
         tables = record {
           locks = locks ∙ sym no_locks ∙ ap (λ l. locks_of l empty) (sym live) ∙ ap (locks_of node.live) (sym (ap (λ (u : _). u.units) units));
           rows = record {

@@ -9,6 +9,7 @@ use Rattle.row_model.specs.Rows.{Rows}
 use Rattle.order_event.specs.declared.event.Event.{Event}
 use Rattle.cert_meaning.specs.declared.items.CommitItem.{CommitItem}
 use Rattle.apply_unit.specs.Task.{task}
+use Rattle.certification.proofs.Ahead.{changes-is}
 use Rattle.node_meaning.specs.Node.{ApplyUnit, rows_at}
 use Rattle.node_meaning.specs.Units.{ops_at, unit_task, images_of}
 use Rattle.node_meaning.specs.Steps.{is_started, advance_step}
@@ -25,8 +26,8 @@ module _ (order other : List Event) (node : Node) (st : Stands order node) (su :
       let one = st.facts.units number u there in
       let two = su.facts.units number u there in
       same_Some (ops_at order number) (ops_at other number)
-      (sym (st.passed.kept number one.above one.within (subst (λ (o : Option CommitItem). IsTrue (is_some o)) (sym one.is_commit) refl))
-      ∙ su.passed.kept number two.above two.within (subst (λ (o : Option CommitItem). IsTrue (is_some o)) (sym two.is_commit) refl))
+      (sym (changes-is order node.at.committed node.at.certified node.certification st.certification number one.above one.within (subst (λ (o : Option CommitItem). IsTrue (is_some o)) (sym one.is_commit) refl))
+      ∙ changes-is other node.at.committed node.at.certified node.certification su.certification number two.above two.within (subst (λ (o : Option CommitItem). IsTrue (is_some o)) (sym two.is_commit) refl))
 
   same_rows : rows_at order node.at.committed ≡ rows_at other node.at.committed
   same_rows = sym st.tables.rows.committed ∙ su.tables.rows.committed

@@ -54,8 +54,7 @@ pub unchanged : (old new : Node) → new ≡ old → Unchanged old new
 unchanged old new same = subst (Unchanged old) (sym same) (record {
   plain = refl;
   inbox = refl;
-  fold = refl;
-  passed = refl;
+  certification = refl;
   work = refl;
   unit_room = refl;
   locks = refl;

@@ -10,9 +10,8 @@ use Rattle.order_event.specs.declared.event.Event.{Event}
 use Rattle.order_event.specs.declared.step.Answer.{Answer}
 use Rattle.order_event.specs.declared.step.Answer.TheVariants as answer
 use Rattle.cert_meaning.specs.declared.items.CommitItem.{CommitItem}
-use Rattle.cert_meaning.specs.State.{FoldState, commit_numbered}
-use Rattle.cert_meaning.specs.Search.{is_related, commits_below, greatest_related}
-use Rattle.cert_meaning.specs.Fold.{state_at}
+use Rattle.certification.specs.Certifies.{commit_with, touching_between, changes_with}
+use Rattle.certification.proofs.Ahead.{commit-is, touching-is, changes-is}
 use Rattle.apply_unit.specs.Results.{Image}
 use Rattle.apply_unit.specs.Task.{ModelTask, task}
 use Rattle.node_meaning.specs.Node.{ModelNode, ApplyUnit, ahead, passed_at, rows_at}
@@ -35,10 +34,10 @@ on_err (Err b) holds = holds
 
 -- ---- the task
 pub task_given : (order : List Event) (node : Node) (number : ℕ) (keys : Keys) (ops : List Op) (images : List Image) (made : ModelTask)
-    → CanStart order node number keys → ops ≡ unwrap_or (get node.passed.ops number) [] → images ≡ images_of ops node.rows.committed
+    → CanStart order node number keys → ops ≡ unwrap_or (changes_with number node.certification) [] → images ≡ images_of ops node.rows.committed
     → made ≡ task number ops images → made ≡ unit_task order number
 task_given order node number keys ops images made can changes rows is =
-    let kept = can.stands.passed.kept number can.above can.within (ap is_some can.is_commit) in
+    let kept = changes-is order node.at.committed node.at.certified node.certification can.stands.certification number can.above can.within (ap is_some can.is_commit) in
     let own : ops ≡ ops_at order number = changes ∙ ap (λ (o : Option (List Op)). unwrap_or o []) kept in
     let facts = can.stands.facts.in_order in
     is ∙ ap (task number ops) rows
@@ -48,57 +47,9 @@ task_given order node number keys ops images made can changes rows is =
     (omega (arith, can.within, facts.certified_fits, facts.taken_fits)) can.above can.is_commit can.clear)
 
 pub ops_given : (order : List Event) (node : Node) (number : ℕ) (keys : Keys) (ops : List Op)
-    → CanStart order node number keys → ops ≡ unwrap_or (get node.passed.ops number) [] → ops ≡ ops_at order number
+    → CanStart order node number keys → ops ≡ unwrap_or (changes_with number node.certification) [] → ops ≡ ops_at order number
 ops_given order node number keys ops can changes =
-    changes ∙ ap (λ (o : Option (List Op)). unwrap_or o []) (can.stands.passed.kept number can.above can.within (ap is_some can.is_commit))
-
--- ---- what was read
-skipped : (committed number : ℕ) (c : CommitItem) (cs : List CommitItem) (a t : Bool) → nat_lt committed c.number ≡ a → (c.number == number) ≡ t
-    → committed < number → commit_numbered number (filter (λ (d : CommitItem). nat_lt committed d.number) cs) ≡ commit_numbered number cs
-    → commit_numbered number (cond a (c ∷ filter (λ (d : CommitItem). nat_lt committed d.number) cs) (filter (λ (d : CommitItem). nat_lt committed d.number) cs))
-    ≡ cond t (Some c) (commit_numbered number cs)
-skipped committed number c cs true t above tie after rest =
-    ap (λ b. cond b (Some c) (commit_numbered number (filter (λ (d : CommitItem). nat_lt committed d.number) cs))) tie
-    ∙ ap (cond t (Some c)) rest
-skipped committed number c cs false false above tie after rest = rest
-skipped committed number c cs false true above tie after rest =
-    absurd (true≢false (sym (lt-ltb committed c.number (subst (λ m. committed < m) (sym (eqb-true c.number number tie)) after)) ∙ above))
-
-numbered_ahead : (committed number : ℕ) (cs : List CommitItem) → committed < number
-    → commit_numbered number (filter (λ (d : CommitItem). nat_lt committed d.number) cs) ≡ commit_numbered number cs
-numbered_ahead committed number [] after = refl
-numbered_ahead committed number (c ∷ cs) after =
-    skipped committed number c cs (nat_lt committed c.number) (c.number == number) refl refl after (numbered_ahead committed number cs after)
-
--- to search between two numbers is to search those above the one for what is below the other
-module _ (committed number : ℕ) (keys : Keys) where
-  abbrev related : CommitItem → Bool
-  related = is_related touches committed keys
-
-  abbrev before : CommitItem → Bool
-  before c = nat_lt c.number number && touches c.keys keys
-
-  one_more : (c : CommitItem) (xs ys : List CommitItem) (below above : Bool) → nat_lt c.number number ≡ below → nat_lt committed c.number ≡ above
-      → filter related xs ≡ filter before ys → filter related (cond below (c ∷ xs) xs) ≡ filter before (cond above (c ∷ ys) ys)
-  one_more c xs ys true true is_below is_above rest =
-      ap (λ b. cond (b && touches c.keys keys) (c ∷ filter related xs) (filter related xs)) is_above
-      ∙ ap (λ cs. cond (touches c.keys keys) (c ∷ cs) cs) rest
-      ∙ sym (ap (λ b. cond (b && touches c.keys keys) (c ∷ filter before ys) (filter before ys)) is_below)
-  one_more c xs ys true false is_below is_above rest =
-      ap (λ b. cond (b && touches c.keys keys) (c ∷ filter related xs) (filter related xs)) is_above ∙ rest
-  one_more c xs ys false true is_below is_above rest =
-      rest ∙ sym (ap (λ b. cond (b && touches c.keys keys) (c ∷ filter before ys) (filter before ys)) is_below)
-  one_more c xs ys false false is_below is_above rest = rest
-
-  same_between : (cs : List CommitItem) → filter related (commits_below number cs) ≡ filter before (filter (λ (c : CommitItem). nat_lt committed c.number) cs)
-  same_between [] = refl
-  same_between (c ∷ cs) =
-      one_more c (commits_below number cs) (filter (λ (c : CommitItem). nat_lt committed c.number) cs)
-      (nat_lt c.number number) (nat_lt committed c.number) refl refl (same_between cs)
-
-  pub between_is : (cs : List CommitItem) → greatest_related touches (commits_below number cs) committed keys
-      ≡ greatest (touching_before (filter (λ (c : CommitItem). nat_lt committed c.number) cs) number keys)
-  between_is cs = ap (λ found. greatest (map (λ (c : CommitItem). c.number) found)) (same_between cs)
+    changes ∙ ap (λ (o : Option (List Op)). unwrap_or o []) (changes-is order node.at.committed node.at.certified node.certification can.stands.certification number can.above can.within (ap is_some can.is_commit))
 
 -- the node stands as it did
 stays : (order : List Event) (node : Node) (number : ℕ) (r : Started) → Stands order node
@@ -158,15 +109,13 @@ module _ (order : List Event) (node : Node) (number : ℕ) (stands : Stands orde
       ∙ sym (step_by (passed_at order node.at.committed node.at.certified number) refl)) refl tt
 
   module _ (above : node.at.committed < number) where
-    read_is : passed_at order node.at.committed node.at.certified number ≡ commit_numbered number node.fold.commits
-    read_is =
-        numbered_ahead node.at.committed number (state_at order node.at.certified).commits above
-        ∙ ap (λ (s : FoldState). commit_numbered number s.commits) (sym stands.fold)
+    read_is : passed_at order node.at.committed node.at.certified number ≡ commit_with number node.certification
+    read_is = sym (commit-is order node.at.committed node.at.certified node.certification stands.certification number above)
 
-    pub start_nothing : commit_numbered number node.fold.commits ≡ None → IsRefused order node number refused.NoUnit
+    pub start_nothing : commit_with number node.certification ≡ None → IsRefused order node number refused.NoUnit
     start_nothing none = stays order node number refused.NoUnit stands (sym (step_by None (read_is ∙ none))) refl tt
 
-    module _ (commit : CommitItem) (found : commit_numbered number node.fold.commits ≡ Some commit)
+    module _ (commit : CommitItem) (found : commit_with number node.certification ≡ Some commit)
         (fresh : is_some (get node.units.units number) ≡ false) where
       step_is : start_step order n number
           ≡ cond {A = Answer × ModelNode} (is_local node.live number) (answer.Local number, n)
@@ -185,11 +134,10 @@ module _ (order : List Event) (node : Node) (number : ℕ) (stands : Stands orde
           (start_after n number commit.keys (greatest (touching_before (ahead order node.at.committed node.at.certified) number commit.keys)))) here)) refl tt
 
       module _ (remote : is_local node.live number ≡ false) (way : Option ℕ)
-          (seen : way ≡ greatest (touching_before (filter (λ (c : CommitItem). nat_lt node.at.committed c.number) node.fold.commits) number commit.keys)) where
+          (seen : way ≡ touching_between node.at.committed number commit.keys node.certification) where
         way_is : greatest (touching_before (ahead order node.at.committed node.at.certified) number commit.keys) ≡ way
         way_is =
-            ap (λ (s : FoldState). greatest (touching_before (filter (λ (c : CommitItem). nat_lt node.at.committed c.number) s.commits) number commit.keys)) (sym stands.fold)
-            ∙ sym seen
+            sym (seen ∙ touching-is order node.at.committed node.at.certified node.certification stands.certification number commit.keys)
 
         after_is : start_step order n number ≡ start_after n number commit.keys way
         after_is =

@@ -19,7 +19,7 @@ use Rattle.row_model.specs.declared.calls.Reply.{Reply}
 use Rattle.row_model.specs.declared.calls.Reply.TheVariants as reply
 use Rattle.order_event.specs.declared.event.Event.{Event}
 use Rattle.write_set.specs.Rules.{row_parts}
-use Rattle.cert_meaning.specs.Verdict.{held_by}
+use Rattle.certification.proofs.Ahead.{holder-is}
 use Rattle.client_trx.specs.Live.{Live, add_by, added_unless, is_due, is_too_large, has_locks}
 use Rattle.client_trx.specs.KeyedOps.{IsKeyOf, with_op}
 use Rattle.client_trx.specs.declared.status.Added.TheVariants as added
@@ -114,7 +114,7 @@ module _ (order : List Event) (node : Node) (session : ℕ) (id : RowId) (kind :
     (is : get node.live session ≡ Some t) (free : is_pending (Some t) ≡ false) (st : Stands order node) where
   -- what the parts show is what the model's statement meets
   held_same : (met_at node session id kind t).held ≡ (met_by order (plain_of node) session t (asked_for id kind change)).held
-  held_same = ap (λ s. held_by s t.trx (one_key (row_parts id) kind)) st.fold
+  held_same = holder-is order node.at.committed node.at.certified node.certification st.certification t.trx (one_key (row_parts id) kind)
 
   pub blocker_same : (met_at node session id kind t).blocker ≡ (met_by order (plain_of node) session t (asked_for id kind change)).blocker
   blocker_same = ap (λ l. blocker l (Session session) (row_parts id) kind) st.tables.locks
@@ -301,8 +301,7 @@ module _ (order : List Event) (c0 c1 c2 : Node) (session : ℕ) (id : RowId) (ki
           stands = stands_by order c1 c3 st1 (ap (λ (n : ModelNode). n.at.committed) plain_is)
               (ap (λ (n : ModelNode). n.at.certified) plain_is) (ap (λ (n : ModelNode). n.at.taken) plain_is)
               (ap (λ (n : Node). n.inbox) others ∙ ap (λ (n : Node). n.inbox) grown)
-              (ap (λ (n : Node). n.fold) others ∙ ap (λ (n : Node). n.fold) grown)
-              (ap (λ (n : Node). n.passed.ops) others ∙ ap (λ (n : Node). n.passed.ops) grown)
+              (ap (λ (n : Node). n.certification) others ∙ ap (λ (n : Node). n.certification) grown)
               (record {
                 locks = locks_now ∙ ap (λ (n : ModelNode). locks_of n.live n.units) (sym plain_is);
                 rows = subst (λ (n : ModelNode). Tabled (rows_at order n.at.committed) n.live c3.rows) (sym plain_is)
@@ -356,8 +355,7 @@ module _ (order : List Event) (old : Node) (session : ℕ) (c : Call) (waiting :
             ∙ ap (λ o. client.told_first n session o (client.asked order n session (get n.live session) c)) (sym is);
         stands = record {
           inbox = st.inbox;
-          fold = st.fold;
-          passed = st.passed;
+          certification = st.certification;
           tables = record {
             locks = st.tables.locks;
             rows = st.tables.rows;

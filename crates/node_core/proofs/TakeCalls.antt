@@ -47,8 +47,7 @@ module _ (order : List Event) (old : Node) (stands : Stands order old) where
           stands = record {
             inbox = ap (λ events. events ++ e ∷ []) stands.inbox
                 ∙ taken_one order old.at.certified old.at.taken e stands.facts.in_order.certified_fits stands.facts.in_order.taken_fits there;
-            fold = stands.fold;
-            passed = stands.passed;
+            certification = stands.certification;
             tables = record {
               locks = stands.tables.locks;
               rows = stands.tables.rows;

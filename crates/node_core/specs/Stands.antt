@@ -1,14 +1,12 @@
 -- when a node of the code stands for the model node over an order, and what a call of it does
-use Rattle.std.specs.Prelude.{◌≡◌, ◌≤◌, ◌<◌, ℕ, List, length, take, drop, Some, None, is_some, IsTrue}
-use Rattle.std.specs.Ordering.{nat_cmp}
-use Rattle.finite_map.specs.FiniteMap.{FiniteMap, get, contains_key}
-use Rattle.row_model.specs.declared.ops.Op.{Op}
+use Rattle.std.specs.Prelude.{◌≡◌, ◌≤◌, ℕ, List, length, take, drop, Some, None}
+use Rattle.finite_map.specs.FiniteMap.{get}
 use Rattle.order_event.specs.declared.event.Event.{Event}
-use Rattle.cert_meaning.specs.Fold.{state_at}
+use Rattle.certification.specs.Certifies.{Certifies}
 use Rattle.node_meaning.specs.declared.progress.Stage.{Stage}
 use Rattle.node_meaning.specs.declared.progress.Stage.TheVariants as stage
 use Rattle.node_meaning.specs.Node.{ModelNode, ApplyUnit, locks_of, rows_at}
-use Rattle.node_meaning.specs.Facts.{Facts, commit_at}
+use Rattle.node_meaning.specs.Facts.{Facts}
 use Rattle.node_core.specs.declared.node.Node.{Node}
 use Rattle.node_core.specs.Tabled.{Tabled}
 use Rattle.node_meaning.specs.Units.{ops_at, unit_task, named_rows}
@@ -25,12 +23,6 @@ plain_of node = record {
   units = node.units.units;
   waiting = node.waiting;
 }
-
--- the changes of each passed commit that is certified and not committed
-pub record KeepsChanges (order : List Event) (committed certified : ℕ) (passed : FiniteMap nat_cmp (List Op)) : Type 0 where
-  pub kept : (number : ℕ) → committed < number → number ≤ certified → IsTrue (is_some (commit_at order number))
-      → get passed number ≡ Some (ops_at order number)
-  pub only : (number : ℕ) → IsTrue (contains_key passed number) → (committed < number) × (number ≤ certified)
 
 -- a unit has its task once it is finished, and room for its rows
 abbrev pub HasTask : List Event → ℕ → Work → Stage → Type 0
@@ -55,8 +47,7 @@ pub record Tables (order : List Event) (node : Node) : Type 0 where
 -- the node stands for the model node that it keeps
 pub record Stands (order : List Event) (node : Node) : Type 0 where
   pub inbox : node.inbox ≡ drop node.at.certified (take node.at.taken order)
-  pub fold : node.fold ≡ state_at order node.at.certified
-  pub passed : KeepsChanges order node.at.committed node.at.certified node.passed.ops
+  pub certification : Certifies order node.at.committed node.at.certified node.certification
   pub tables : Tables order node
   pub facts : Facts order (plain_of node)
 
@@ -77,8 +68,7 @@ quietly f order n = (tt, f n)
 pub record Unchanged (old new : Node) : Type 0 where
   pub plain : plain_of new ≡ plain_of old
   pub inbox : new.inbox ≡ old.inbox
-  pub fold : new.fold ≡ old.fold
-  pub passed : new.passed.ops ≡ old.passed.ops
+  pub certification : new.certification ≡ old.certification
   pub work : new.units.work ≡ old.units.work
   pub unit_room : new.units.room ≡ old.units.room
   pub locks : new.locks.locks ≡ old.locks.locks
@@ -90,8 +80,7 @@ pub record Unchanged (old new : Node) : Type 0 where
 pub record Moves (f : ModelNode → ModelNode) (old new : Node) : Type 0 where
   pub plain : plain_of new ≡ f (plain_of old)
   pub inbox : new.inbox ≡ old.inbox
-  pub fold : new.fold ≡ old.fold
-  pub passed : new.passed ≡ old.passed
+  pub certification : new.certification ≡ old.certification
   pub tables : (order : List Event) → Tables order old → Tables order new
 
 -- there is an order for which the node stands: so a node is at its start, and each call keeps it

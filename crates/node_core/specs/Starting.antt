@@ -63,8 +63,7 @@ pub record Aborts (f : ModelNode → ModelNode) (old new : Node) : Type 0 where
   pub plain : plain_of new ≡ f (plain_of old)
   pub at : new.at ≡ old.at
   pub inbox : new.inbox ≡ old.inbox
-  pub fold : new.fold ≡ old.fold
-  pub passed : new.passed ≡ old.passed
+  pub certification : new.certification ≡ old.certification
   pub units : new.units ≡ old.units
   pub spare : old.locks.spare ≤ new.locks.spare
   pub room : old.rows.spare ≤ new.rows.spare

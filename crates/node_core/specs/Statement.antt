@@ -6,7 +6,7 @@ use Rattle.key_sets.specs.Keys.{one_key}
 use Rattle.row_model.specs.declared.row.RowId.{RowId}
 use Rattle.row_model.specs.declared.ops.Op.{Op}
 use Rattle.write_set.specs.Rules.{row_parts}
-use Rattle.cert_meaning.specs.Verdict.{held_by}
+use Rattle.certification.specs.Certifies.{holder_of}
 use Rattle.client_trx.specs.Live.{Live}
 use Rattle.client_trx.specs.declared.status.Added.{Added}
 use Rattle.row_locks.specs.declared.holder.Holder.TheVariants.{Session}
@@ -18,7 +18,7 @@ use Rattle.node_core.specs.declared.refusal.Met.{Met}
 -- what a statement of a transaction meets in the parts of a node
 abbrev pub met_at : Node → ℕ → RowId → Kind → Live → Met
 met_at node session id kind t = record {
-  held = held_by node.fold t.trx (one_key (row_parts id) kind);
+  held = holder_of t.trx (one_key (row_parts id) kind) node.certification;
   blocker = blocker node.locks.locks (Session session) (row_parts id) kind;
   row = seen node.rows session id;
 }

@@ -11,7 +11,7 @@ use row_model::{Reply, Row, RowId};
 use undo_rows::{Overlay, Rows};
 
 impl Node {
-    ghost use Rattle.cert_meaning.specs.State.{commit_numbered};
+    ghost use Rattle.certification.specs.Certifies.{commit_with};
     ghost use Rattle.node_parts.specs.Units.{done_of, rows_of};
     ghost use Rattle.node_meaning.specs.Steps.{advance_step, is_finished, committer_of as committer, is_local as local};
     ghost use Rattle.node_core.specs.Advancing.{results_of};
@@ -32,16 +32,16 @@ impl Node {
         }
         self.take_unit(number);
         self.end_committer(number);
-        self.passed.remove(number);
+        self.certification.commit(number);
         self.at.committed = number;
         Advanced::At(number)
     }
 
     // Whether the number is no passed commit, or its unit is finished, or it is a live local one.
     fn is_ready(&self, number: u64) -> bool
-        ensures { result ≡ (is_none (commit_numbered number self.now.fold.commits) || is_finished (get self.now.units.units number) || local self.now.live number) }
+        ensures { result ≡ (is_none (commit_with number self.now.certification) || is_finished (get self.now.units.units number) || local self.now.live number) }
     {
-        self.fold.commit_at(number).is_none()
+        self.certification.commit_at(number).is_none()
             || self.units.is_finished(number)
             || is_local(&self.live, number)
     }

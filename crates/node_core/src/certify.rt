@@ -1,16 +1,14 @@
-ghost use Rattle.std.specs.Prelude.{◌≡◌, ◌<◌, IfOk, OnErr};
+ghost use Rattle.std.specs.Prelude.{◌≡◌, IfOk, OnErr};
 ghost use Rattle.client_trx.specs.Live.{is_sent};
-ghost use Rattle.node_parts.specs.Passed.{AllBefore};
 ghost use Rattle.node_meaning.specs.Steps.{verdict_of};
-ghost use Rattle.node_core.specs.Certifying.{is_write_of, with_changes, told_if};
+ghost use Rattle.node_core.specs.Certifying.{is_write_of, told_if};
 
 use crate::answers::Certified;
 use crate::node::Node;
 use client_trx::{Outcome, Status};
-use node_parts::{Passed, session_of};
+use node_parts::session_of;
 use order_event::Event;
 use row_locks::Holder;
-use row_model::OpList;
 use undo_rows::Rows;
 use write_set::WriteSet;
 use wsrep_base::{Judged, NoMemory, Verdict};
@@ -31,16 +29,14 @@ impl Node {
         if self.at.certified == self.at.taken {
             return Ok(Certified::Nothing);
         }
-        self.passed.reserve_one()?;
         let Some(event) = self.inbox.first() else {
             return Ok(Certified::Nothing);
         };
         let is_own = is_write_of(event, self.at.member);
-        let told = self.fold.step_told(event)?;
+        let told = self.certification.certify(event)?;
         self.inbox.drop_first();
         self.at.certified += 1;
         let number = self.at.certified;
-        keep_changes(&mut self.passed, number, told.judged, told.changes);
         self.tell_own(is_own, told.set, number, verdict_of(told.judged));
         Ok(Certified::Judged(number, told.judged))
     }
@@ -100,18 +96,6 @@ fn is_sent(status: Status) -> bool
     match status {
         Status::FragmentSent | Status::CommitSent | Status::KilledSent => true,
         Status::Running | Status::Certified(_) | Status::Replaying(_) => false,
-    }
-}
-
-// The changes of a passed commit wait there until it is committed.
-fn keep_changes(passed: &mut Passed, number: u64, judged: Judged, changes: OpList)
-    requires spare { 0 < passed.old.spare }
-    requires newest { AllBefore passed.old.ops number }
-    ensures { passed.new.ops ≡ with_changes judged passed.old.ops number changes }
-{
-    match judged {
-        Judged::Commit => passed.push(number, changes),
-        Judged::View | Judged::Report | Judged::Fragment | Judged::Rollback | Judged::Fail(_) => {}
     }
 }
 

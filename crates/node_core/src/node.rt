@@ -3,10 +3,10 @@ ghost use Rattle.std.specs.Option.{option_copied};
 ghost use Rattle.finite_map.specs.FiniteMap.{get};
 
 use crate::answers::Place;
-use cert_meaning::FoldState;
+use certification::Certification;
 use client_trx::Trx;
 use node_meaning::{Phase, Progress};
-use node_parts::{Inbox, Passed, Queue, Slots, Units};
+use node_parts::{Inbox, Queue, Slots, Units};
 use order_event::Message;
 use row_locks::LockTable;
 use row_model::{Reply, Row, RowId, RowList};
@@ -27,10 +27,7 @@ pub struct Node {
     pub(crate) queue: Queue,
     /// What it took and did not certify yet.
     pub(crate) inbox: Inbox,
-    /// The state of certification.
-    pub(crate) fold: FoldState,
-    /// The changes of passed commits that are not committed yet.
-    pub(crate) passed: Passed,
+    pub(crate) certification: Certification,
     pub(crate) units: Units,
     pub(crate) locks: LockTable,
     pub(crate) rows: Overlay,
@@ -70,8 +67,7 @@ impl Node {
             waiting: Slots::new(alloc)?,
             queue: Queue::new(alloc),
             inbox: Inbox::new(alloc),
-            fold: FoldState::empty(alloc)?,
-            passed: Passed::new(alloc),
+            certification: Certification::new(alloc)?,
             units: Units::new(alloc),
             locks: LockTable::new(alloc)?,
             rows: Overlay::new(alloc)?,

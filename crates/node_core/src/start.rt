@@ -1,6 +1,5 @@
 ghost use Rattle.std.specs.Prelude.{◌≡◌, ◌+◌, ◌<◌, ◌≤◌, ◌^◌, List, [], length, fold, IfOk, IfErr, OnOk, OnErr, IsTrue};
 ghost use Rattle.std.specs.Option.{unwrap_or};
-ghost use Rattle.finite_map.specs.FiniteMap.{get};
 ghost use Rattle.client_trx.specs.Live as live;
 ghost use Rattle.node_core.specs.Starting.{unit_locked, AllClear};
 
@@ -20,6 +19,7 @@ use wsrep_base::{NoMemory, SessionList};
 
 impl Node {
     ghost use Rattle.key_sets.specs.Keys.{Keys};
+    ghost use Rattle.certification.specs.Certifies.{changes_with};
     ghost use Rattle.order_event.specs.declared.event.Event.{Event};
     ghost use Rattle.order_event.specs.declared.step.Answer.TheVariants as answer;
     ghost use Rattle.node_meaning.specs.Steps.{start_step, kill_session};
@@ -60,14 +60,17 @@ impl Node {
         if number <= self.at.committed || self.units.contains(number) {
             return Err(Started::NoUnit);
         }
-        let Some(commit) = self.fold.commit_at(number) else {
+        let Some(commit) = self.certification.commit_at(number) else {
             return Err(Started::NoUnit);
         };
         if is_local(&self.live, number) {
             return Err(Started::Local);
         }
         let committed = self.at.committed;
-        if let Some(earlier) = self.fold.touching_between(committed, number, &commit.keys) {
+        if let Some(earlier) = self
+            .certification
+            .touching_between(committed, number, &commit.keys)
+        {
             return Err(Started::NotYet(earlier));
         }
         Ok(&commit.keys)
@@ -109,9 +112,9 @@ impl Node {
 
     // The changes of the passed commit.
     fn changes_of(&self, number: u64) -> Result<OpList, NoMemory>
-        ensures { IfOk result (λ ops. ops ≡ unwrap_or (get self.now.passed.ops number) []) }
+        ensures { IfOk result (λ ops. ops ≡ unwrap_or (changes_with number self.now.certification) []) }
     {
-        match self.passed.get(number) {
+        match self.certification.changes_of(number) {
             Some(ops) => ops.copy(),
             None => Ok(OpList::new(self.alloc)),
         }

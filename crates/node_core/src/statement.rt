@@ -66,7 +66,7 @@ impl Node {
         let parts = parts_of(id);
         let key = key_of(self.alloc, &parts, kind)?;
         Ok(Some(Met {
-            held: self.fold.held_by(&key, trx.id()),
+            held: self.certification.held_by(&key, trx.id()),
             blocker: self.locks.check(Holder::Session(session), &parts, kind),
             row: self.rows.seen_by(session, id),
         }))

@@ -17,4 +17,5 @@ pub returns : goal.returns
 returns c order stands =
     advance_does order c.args.self.now stands c.if-self.false
     (sym (c.is_ready.ensures ∙ ready_is order c.args.self.now stands c.if-self.false) ∙ c.if-not-is_ready.false)
-    c.take_unit.new.self c.take_unit.ensures c.end_committer.new.self _ refl c.remove.ensures.ops c.end_committer.ensures
+    c.take_unit.new.self c.take_unit.ensures c.end_committer.new.self _ refl
+    (λ certifies. c.commit.ensures order c.args.self.now.at.committed c.args.self.now.at.certified certifies refl) c.end_committer.ensures

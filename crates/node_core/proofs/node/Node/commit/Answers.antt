@@ -36,7 +36,7 @@ returns-clause-ok c order st =
       | else-is_empty-via-then-is_empty+else-sent-eq0 w ↦ w.if-sent-eq0.false (w.sent.ensures ∙ none)
       | else-is_empty-via-else-is_empty w ↦ no_both c.is_empty.result (c.is_empty.ensures.1 (c.ops.ensures.value ∙ empty)) w.if-is_empty.false
     ]))
-    c.progress_in_range.ensures plain refl refl refl refl refl refl st
+    c.progress_in_range.ensures plain refl refl refl refl refl st
 
 pub returns-in_err-set-clause-sends : goal.returns-in_err-set-clause-sends
 returns-in_err-set-clause-sends c =

@@ -1,7 +1,7 @@
 -- What was read of the commit is what the model reads.
 use Rattle.std.proofs.Common.{sym, ap, ◌∙◌}
 use Rattle.std.specs.Option.{option_copied}
-use Rattle.node_core.proofs.StartCalls.{start_committed, start_again, start_nothing, start_local, start_later, startable, between_is}
+use Rattle.node_core.proofs.StartCalls.{start_committed, start_again, start_nothing, start_local, start_later, startable}
 use Rattle.node_core.proofs.node.Node.startable.Goals as goal
 use Rattle.node_core.proofs.node.Node.startable.Goals.{then-number-self-via-then-number-self, then-number-self-via-else-number-self+then-contains}
 
@@ -28,7 +28,7 @@ returns-in-Some-touching_between-clause-err c order stands =
     start_later order c.args.self.now c.args.number stands c.if-number-self.false c.in-Some.commit.now
     (sym c.commit_at.ensures ∙ ap (λ o. option_copied o) c.in-Some.is) (sym c.contains.ensures.units ∙ c.if-contains.false)
     (sym c.is_local.ensures ∙ c.if-is_local.false) c.touching_between.result
-    (c.touching_between.ensures ∙ between_is c.args.self.now.at.committed c.args.number c.in-Some.commit.now.keys c.args.self.now.fold.commits)
+    c.touching_between.ensures
     c.in-Some-touching_between.earlier c.in-Some-touching_between.is
 
 pub returns-clause-ok : goal.returns-clause-ok
@@ -36,5 +36,5 @@ returns-clause-ok c order stands =
     startable order c.args.self.now c.args.number stands c.if-number-self.false c.in-Some.commit.now
     (sym c.commit_at.ensures ∙ ap (λ o. option_copied o) c.in-Some.is) (sym c.contains.ensures.units ∙ c.if-contains.false)
     (sym c.is_local.ensures ∙ c.if-is_local.false) c.touching_between.result
-    (c.touching_between.ensures ∙ between_is c.args.self.now.at.committed c.args.number c.in-Some.commit.now.keys c.args.self.now.fold.commits)
+    c.touching_between.ensures
     c.in_default-touching_between.is
