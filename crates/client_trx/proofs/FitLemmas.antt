@@ -22,7 +22,7 @@ use Rattle.write_set.specs.declared.write_set.WriteSet.{WriteSet}
 use Rattle.write_set.specs.Rules.{flags_fit, rollback_is_bare, parts_fit, keys_fit, op_fits, is_exclusive, is_update_kind, is_update, is_covered, row_parts, table_parts, uncovered_from, obeys}
 use Rattle.write_set.proofs.RulesOf.{both, and, obeyed}
 use Rattle.client_trx.specs.KeyedOps.{Keyed, with_op, with_change, is_over, key_of, IsKeyOf, IsFit}
-use Rattle.client_trx.specs.Live.{commit_flags}
+use Rattle.client_trx.specs.Live.{Live, set_from, commit_flags, fragment_flags}
 
 pub neither : (a b : Bool) → a || b ≡ false → (a ≡ false) × (b ≡ false)
 neither true b e = absurd cc
@@ -222,27 +222,68 @@ more_fit all keys ops p k o names own room fit keys_are ops_are =
 pub same_fit : (keys more : Keys) (ops others : List Op) → IsFit keys ops → more ≡ keys → others ≡ ops → IsFit more others
 same_fit keys more ops others fit keys_are ops_are = rw (keys_are, ops_are) fit
 
--- ---- the write set of a commit
+-- ---- write sets that are sent
 
-flags_fit_by : (b : Bool) (sent : ℕ) → (sent == 0) ≡ b → flags_fit (cond b 3 2) sent ≡ true
-flags_fit_by true sent first = ap (λ b. cond b true false) first
-flags_fit_by false sent later = ap (λ b. cond b false true) later
-
-bare_by : (b : Bool) (keys ops : ℕ) → rollback_is_bare (cond b 3 2) keys ops ≡ true
-bare_by true keys ops = refl
-bare_by false keys ops = refl
-
--- a commit of keys and changes that fit obeys the rules
-pub commit_obeys : (w : WriteSet) → w.flags ≡ commit_flags w.fragment → IsFit w.keys w.ops → IsTrue (obeys w)
-commit_obeys w flags fit =
+-- one of keys and changes that fit obeys the rules, where its flags do
+set_obeys : (w : WriteSet) → flags_fit w.flags w.fragment ≡ true → rollback_is_bare w.flags (len w.keys) (length w.ops) ≡ true
+    → IsFit w.keys w.ops → IsTrue (obeys w)
+set_obeys w flags bare fit =
     let ops = both (nat_le (length w.ops) 8192) (list_all op_fits w.ops) fit.op_names in
     obeyed w (record {
-      flags = ap (λ f. flags_fit f w.fragment) flags ∙ flags_fit_by (w.fragment == 0) w.fragment refl;
-      bare = ap (λ f. rollback_is_bare f (len w.keys) (length w.ops)) flags
-          ∙ bare_by (w.fragment == 0) (len w.keys) (length w.ops);
+      flags = flags;
+      bare = bare;
       few_keys = fit.few_keys;
       keys = fit.key_names;
       few_ops = ops.0;
       ops = ops.1;
       covered = fit.covered;
     })
+
+commit_flags_fit : (b : Bool) (sent : ℕ) → (sent == 0) ≡ b → flags_fit (cond b 3 2) sent ≡ true
+commit_flags_fit true sent first = ap (λ b. cond b true false) first
+commit_flags_fit false sent later = ap (λ b. cond b false true) later
+
+commit_bare : (b : Bool) (keys ops : ℕ) → rollback_is_bare (cond b 3 2) keys ops ≡ true
+commit_bare true keys ops = refl
+commit_bare false keys ops = refl
+
+-- a commit obeys the rules
+pub commit_obeys : (w : WriteSet) → w.flags ≡ commit_flags w.fragment → IsFit w.keys w.ops → IsTrue (obeys w)
+commit_obeys w flags fit =
+    set_obeys w (ap (λ f. flags_fit f w.fragment) flags ∙ commit_flags_fit (w.fragment == 0) w.fragment refl)
+    (ap (λ f. rollback_is_bare f (len w.keys) (length w.ops)) flags
+    ∙ commit_bare (w.fragment == 0) (len w.keys) (length w.ops)) fit
+
+pub commit_valid : (t : Live) (all : Keyed) (serial last_seen flags : ℕ) (w : WriteSet)
+    → w ≡ set_from t all serial last_seen flags → flags ≡ commit_flags t.sent → IsFit w.keys w.ops → IsTrue (obeys w)
+commit_valid t all serial last_seen flags w is flags_are fit =
+    commit_obeys w (ap (λ (w : WriteSet). w.flags) is ∙ flags_are ∙ ap (λ (w : WriteSet). commit_flags w.fragment) (sym is)) fit
+
+fragment_flags_fit : (b : Bool) (sent : ℕ) → (sent == 0) ≡ b → flags_fit (cond b 1 0) sent ≡ true
+fragment_flags_fit true sent first = ap (λ b. cond b true false) first
+fragment_flags_fit false sent later = ap (λ b. cond b false true) later
+
+fragment_bare : (b : Bool) (keys ops : ℕ) → rollback_is_bare (cond b 1 0) keys ops ≡ true
+fragment_bare true keys ops = refl
+fragment_bare false keys ops = refl
+
+-- a fragment obeys the rules
+pub fragment_obeys : (w : WriteSet) → w.flags ≡ fragment_flags w.fragment → IsFit w.keys w.ops → IsTrue (obeys w)
+fragment_obeys w flags fit =
+    set_obeys w (ap (λ f. flags_fit f w.fragment) flags ∙ fragment_flags_fit (w.fragment == 0) w.fragment refl)
+    (ap (λ f. rollback_is_bare f (len w.keys) (length w.ops)) flags
+    ∙ fragment_bare (w.fragment == 0) (len w.keys) (length w.ops)) fit
+
+pub fragment_valid : (t : Live) (all : Keyed) (serial last_seen flags : ℕ) (w : WriteSet)
+    → w ≡ set_from t all serial last_seen flags → flags ≡ fragment_flags t.sent → IsFit w.keys w.ops → IsTrue (obeys w)
+fragment_valid t all serial last_seen flags w is flags_are fit =
+    fragment_obeys w (ap (λ (w : WriteSet). w.flags) is ∙ flags_are ∙ ap (λ (w : WriteSet). fragment_flags w.fragment) (sym is)) fit
+
+-- a rollback obeys the rules
+pub rollback_obeys : (w : WriteSet) → w.flags ≡ 4 → w.fragment ≡ 0 → w.keys ≡ empty → w.ops ≡ [] → IsTrue (obeys w)
+rollback_obeys w flags fragment keys ops =
+    set_obeys w (ap (λ f. flags_fit f w.fragment) flags ∙ ap (λ n. n == 0) fragment)
+    (ap (λ f. rollback_is_bare f (len w.keys) (length w.ops)) flags
+    ∙ ap (λ (k : Keys). rollback_is_bare 4 (len k) (length w.ops)) keys
+    ∙ ap (λ (n : ℕ). rollback_is_bare 4 n (length w.ops)) (len-empty parts_cmp Kind)
+    ∙ ap (λ (o : List Op). rollback_is_bare 4 0 (length o)) ops) (none_fit w.keys w.ops keys ops)

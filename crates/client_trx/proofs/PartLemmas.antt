@@ -53,7 +53,8 @@ below n m limit less h = grind (arith, nat_tests)
 neither_or : (a b : Bool) → a ≡ false → b ≡ false → a || b ≡ false
 neither_or a b p q = ap (λ x. x || b) p ∙ q
 
-part_not_over : (whole part : Keyed) → IsPart whole part → is_over whole ≡ false → is_over part ≡ false
+-- a part of what has room has room
+pub part_not_over : (whole part : Keyed) → IsPart whole part → is_over whole ≡ false → is_over part ≡ false
 part_not_over whole part kept room =
     let few = neither _ _ room in
     neither_or _ _ (below (len part.keys) (len whole.keys) LIMIT (len-among whole.keys part.keys kept.keys) few.0)
@@ -69,7 +70,8 @@ no_more_ops : (whole part : List Op) (o : Option Op) → length part ≤ length 
 no_more_ops whole part None less = less
 no_more_ops whole part (Some o) less = grind (arith, length-append)
 
-part_more : (whole part : Keyed) (p : Parts) (k : Kind) (o : Option Op) → IsPart whole part
+-- with one more key and change on both, it is still a part
+pub part_more : (whole part : Keyed) (p : Parts) (k : Kind) (o : Option Op) → IsPart whole part
     → IsPart (with_change whole p k o) (with_change part p k o)
 part_more whole part p k o kept = record {
   keys = λ q none. get-with_key part.keys p k q

@@ -1,2 +1,3 @@
 pub mod KeyedOps
 pub mod Live
+pub mod Newest

@@ -1,5 +1,5 @@
 -- A live transaction: its keys and changes, how far it is, and what statements, verdicts and kills make of it.
-use Rattle.std.specs.Prelude.{ℕ, ◌==◌, Bool, true, false, ◌&&◌, nat_lt, List, [], length, Option, Some, None, if◌then◌else◌}
+use Rattle.std.specs.Prelude.{◌≡◌, ◌<◌, ℕ, ◌+◌, ◌==◌, Bool, true, false, ◌&&◌, nat_lt, List, [], length, Option, Some, None, if◌then◌else◌}
 use Rattle.finite_map.specs.FiniteMap.{empty}
 use Rattle.key_sets.specs.declared.kind.Kind.{Kind}
 use Rattle.key_sets.specs.declared.parts.Parts.{Parts}
@@ -109,21 +109,34 @@ is_sent (Certified n) = false
 is_sent KilledSent = true
 is_sent (Replaying n) = false
 
+-- the number of its commit, where that has passed
+abbrev pub commit_number : Status → Option ℕ
+commit_number Running = None
+commit_number FragmentSent = None
+commit_number CommitSent = None
+commit_number (Certified n) = Some n
+commit_number KilledSent = None
+commit_number (Replaying n) = Some n
+
 abbrev pub with_status : Live → Status → Live
 with_status t status = record t { status = status }
 
--- the write set of its keys and changes since its last fragment, by serial, last seen and flags
-abbrev pub gathered : Live → ℕ → ℕ → ℕ → WriteSet
-gathered t serial last_seen flags = record {
+-- a write set of these keys and changes, by serial, last seen and flags
+abbrev pub set_from : Live → Keyed → ℕ → ℕ → ℕ → WriteSet
+set_from t all serial last_seen flags = record {
   member = t.trx.member;
   serial = serial;
   begin = t.trx.begin;
   fragment = t.sent;
   flags = flags;
   last_seen = last_seen;
-  keys = t.new_keys;
-  ops = t.new_ops;
+  keys = all.keys;
+  ops = all.ops;
 }
+
+-- the write set of its keys and changes since its last fragment
+abbrev pub gathered : Live → ℕ → ℕ → ℕ → WriteSet
+gathered t serial last_seen flags = set_from t (newest_of t) serial last_seen flags
 
 -- START 1 and END 2 where no fragment was sent, and else END alone
 abbrev pub commit_flags : ℕ → ℕ
@@ -132,6 +145,55 @@ commit_flags sent = if sent == 0 then 3 else 2
 -- the write set of its commit, by serial and last seen
 abbrev pub commit_of : Live → ℕ → ℕ → WriteSet
 commit_of t serial last_seen = gathered t serial last_seen (commit_flags t.sent)
+
+-- START 1 where it is the first fragment
+abbrev pub fragment_flags : ℕ → ℕ
+fragment_flags sent = if sent == 0 then 1 else 0
+
+-- the write set of its next fragment, by serial and last seen
+abbrev pub fragment_of : Live → ℕ → ℕ → WriteSet
+fragment_of t serial last_seen = gathered t serial last_seen (fragment_flags t.sent)
+
+-- it can send a fragment
+abbrev pub CanSendFragment : Live → Type 0
+CanSendFragment t = (t.status ≡ Running) × (0 < length t.new_ops)
+
+-- a fragment is sent: it has gathered nothing since, so a pass changes its status alone
+abbrev pub fragment_sent : Live → Live
+fragment_sent t = record t {
+  sent = t.sent + 1;
+  new_keys = empty;
+  new_ops = [];
+  status = FragmentSent;
+}
+
+-- the write set that takes its fragments back, ROLLBACK 4, by serial and last seen
+abbrev pub rollback_of : Live → ℕ → ℕ → WriteSet
+rollback_of t serial last_seen = record {
+  member = t.trx.member;
+  serial = serial;
+  begin = t.trx.begin;
+  fragment = 0;
+  flags = 4;
+  last_seen = last_seen;
+  keys = empty;
+  ops = [];
+}
+
+-- its client or a unit can end it: nothing of its commit is sent
+abbrev pub is_uncommitted : Status → Bool
+is_uncommitted Running = true
+is_uncommitted FragmentSent = true
+is_uncommitted CommitSent = false
+is_uncommitted (Certified n) = false
+is_uncommitted KilledSent = false
+is_uncommitted (Replaying n) = false
+
+-- the rollback that its end before its commit sends, by serial and last seen: where it ever sent a
+-- fragment
+abbrev pub rollback_due : Live → ℕ → ℕ → Option WriteSet
+rollback_due t serial last_seen =
+    if is_uncommitted t.status && nat_lt 0 t.sent then Some (rollback_of t serial last_seen) else None
 
 -- the status once the write set that was sent has passed with number n
 abbrev pub passed_status : ℕ → Status → Status

@@ -1,4 +1,4 @@
-ghost use Rattle.std.specs.Prelude.{◌≡◌, ◌≤◌, [], length, Option, IfSome, IfOk, OnOk, OnErr, IsTrue, false};
+ghost use Rattle.std.specs.Prelude.{◌≡◌, ◌≤◌, [], length, Option, IfSome, IfOk, OnOk, OnErr, IsOk, IsTrue, false};
 ghost use Rattle.finite_map.specs.FiniteMap.{empty, len};
 ghost use Rattle.key_sets.specs.Keys.{with_key};
 ghost use Rattle.key_sets.specs.declared.kind.Kind.{Kind};
@@ -30,9 +30,10 @@ impl Model for KeyedOps {
 }
 
 impl KeyedOps {
-    /// No key and no change.
+    /// No key and no change. It takes no memory.
     pub(crate) fn new(alloc: Global) -> Result<KeyedOps, NoMemory>
-        ensures { IfOk result (λ all. all ≡ record { keys = empty; ops = [] }) }
+        ensures value { IfOk result (λ all. all ≡ record { keys = empty; ops = [] }) }
+        ensures succeeds { IsOk result }
     {
         Ok(KeyedOps {
             keys: KeySet::new(alloc)?,
@@ -71,7 +72,8 @@ impl KeyedOps {
         }
     }
 
-    fn ops_with(&self, op: &Option<Op>) -> usize
+    /// The number of changes, with one more where there is one.
+    pub(crate) fn ops_with(&self, op: &Option<Op>) -> usize
         ensures { result ≡ length (with_op self.now.ops op.now) }
     {
         match op {
@@ -98,6 +100,14 @@ impl KeyedOps {
                 Err(NoMemory)
             }
         }
+    }
+
+    /// The keys, and the changes.
+    pub(crate) fn into_parts(self) -> (KeySet, OpList)
+        ensures value { result ≡ (self.keys, self.ops) }
+        ensures fit { IsFit result.0 result.1 }
+    {
+        (self.keys, self.ops)
     }
 
     /// The same keys and changes.

@@ -1,8 +1,9 @@
-//! A live transaction of a client: its keys and changes, how far it is, and the write set of its
-//! commit.
+//! A live transaction of a client: its keys and changes, how far it is, and the write sets that it
+//! sends: fragments, a commit, a rollback.
 #![tactic(auto)]
 
 mod keyed_ops;
+mod newest;
 mod status;
 mod trx;
 

@@ -1,5 +1,5 @@
 ghost use Rattle.std.specs.Prelude.{◌≡◌};
-ghost use Rattle.client_trx.specs.Live.{passed_status};
+ghost use Rattle.client_trx.specs.Live.{has_locks, is_running, is_sent, is_uncommitted, commit_number, passed_status};
 
 use row_model::Reply;
 
@@ -23,8 +23,10 @@ use row_model::Reply;
 /// | `KilledSent` | `Replaying(n)` | ends: DEADLOCK CERT v | has no locks |
 /// | `Replaying(m)` | none is sent | none is sent | has no locks |
 ///
-/// A fragment leads from `Running` to `FragmentSent`, and the commit to `CommitSent`. A
-/// `Certified` or `Replaying` transaction ends when its node commits its number.
+/// A fragment leads from `Running` to `FragmentSent`, and the commit to `CommitSent`. Any other
+/// verdict changes nothing. A `Certified` or `Replaying` transaction ends when its node commits its
+/// number. One that ends before that, and ever sent a fragment, leaves a rollback to be sent where
+/// a unit kills it or its client rolls it back.
 #[derive(Clone, Copy, Debug, PartialEq, Eq)]
 pub enum Status {
     Running,
@@ -36,6 +38,65 @@ pub enum Status {
 }
 
 impl Status {
+    /// Whether it has row locks, and its changes are in the rows that it sees.
+    pub fn has_locks(self) -> bool
+        ensures { result ≡ has_locks self }
+    {
+        match self {
+            Status::Running | Status::FragmentSent | Status::CommitSent | Status::Certified(_) => {
+                true
+            }
+            Status::KilledSent | Status::Replaying(_) => false,
+        }
+    }
+
+    /// Whether statements are taken.
+    pub fn is_running(self) -> bool
+        ensures { result ≡ is_running self }
+    {
+        match self {
+            Status::Running => true,
+            Status::FragmentSent
+            | Status::CommitSent
+            | Status::Certified(_)
+            | Status::KilledSent
+            | Status::Replaying(_) => false,
+        }
+    }
+
+    /// Whether a write set of it is sent and not yet certified.
+    pub fn is_sent(self) -> bool
+        ensures { result ≡ is_sent self }
+    {
+        match self {
+            Status::FragmentSent | Status::CommitSent | Status::KilledSent => true,
+            Status::Running | Status::Certified(_) | Status::Replaying(_) => false,
+        }
+    }
+
+    /// Whether its client or a unit can end it: nothing of its commit is sent.
+    pub fn is_uncommitted(self) -> bool
+        ensures { result ≡ is_uncommitted self }
+    {
+        match self {
+            Status::Running | Status::FragmentSent => true,
+            Status::CommitSent | Status::Certified(_) | Status::KilledSent | Status::Replaying(_) =>
+                false,
+        }
+    }
+
+    /// The number of its commit; None where that has not passed.
+    pub fn commit_number(self) -> Option<u64>
+        ensures { result ≡ commit_number self }
+    {
+        match self {
+            Status::Certified(n) | Status::Replaying(n) => Some(n),
+            Status::Running | Status::FragmentSent | Status::CommitSent | Status::KilledSent => {
+                None
+            }
+        }
+    }
+
     // The status once the write set that was sent has passed with number n.
     pub(crate) fn passed(self, n: u64) -> Status
         ensures { result ≡ passed_status n self }

@@ -1,16 +1,18 @@
-ghost use Rattle.std.specs.Prelude.{◌≡◌, Option, IfSome, IfOk, OnOk, OnErr, IsTrue, false, option_map};
+ghost use Rattle.std.specs.Prelude.{◌≡◌, length, IfSome, IfOk, OnOk, OnErr, IsOk, IsTrue, false};
 ghost use Rattle.write_set.specs.Rules.{parts_fit, obeys};
-ghost use Rattle.client_trx.specs.KeyedOps.{IsFit, IsKeyOf, is_over, with_change};
-ghost use Rattle.client_trx.specs.Live.{commit_flags};
+ghost use Rattle.client_trx.specs.KeyedOps.{IsFit, IsKeyOf};
+ghost use Rattle.client_trx.specs.Live.{commit_flags, fragment_flags};
 ghost use Rattle.client_trx.specs.declared.status.Status.TheVariants as status;
+ghost use Rattle.client_trx.specs.declared.status.Added.TheVariants as told_as;
 
 use crate::keyed_ops::KeyedOps;
+use crate::newest::{Gain, Newest, nothing_new, put_last, settle};
 use crate::status::{Added, Outcome, Status};
 use key_sets::{KeySet, Kind, Parts};
 use row_model::{Op, OpList, Reply};
 use std::alloc::Global;
 use std::marker::Model;
-use write_set::{END, START, WriteSet};
+use write_set::{END, ROLLBACK, START, WriteSet};
 use wsrep_base::{NoMemory, TrxId, Verdict};
 
 /// A live transaction.
@@ -22,23 +24,22 @@ pub struct Trx {
     status: Status,
     whole: KeyedOps,
     // What came since the last fragment; None until one is sent, as that is then the whole.
-    newest: Option<KeyedOps>,
+    newest: Option<Newest>,
 }
 
 impl Model for Trx {
-    ghost use Rattle.std.specs.Prelude.{IfSome, unwrap_or};
     ghost use Rattle.client_trx.specs.Live.{Live};
-    ghost use Rattle.client_trx.specs.KeyedOps.{Keyed, IsPart};
+    ghost use Rattle.client_trx.specs.Newest.{AreParts, newest_part};
 
     ghost Value = { Live };
 
-    ghost view = { λ t. record { trx = t.id; unit = t.unit; sent = t.sent; keys = t.whole.keys; ops = t.whole.ops; new_keys = (unwrap_or t.newest t.whole).keys; new_ops = (unwrap_or t.newest t.whole).ops; status = t.status } };
+    ghost view = { λ t. record { trx = t.id; unit = t.unit; sent = t.sent; keys = t.whole.keys; ops = t.whole.ops; new_keys = (newest_part t.whole t.newest).keys; new_ops = (newest_part t.whole t.newest).ops; status = t.status } };
 
-    ghost invariant = { λ t. IfSome t.newest (λ part. IsPart t.whole part) };
+    ghost invariant = { λ t. AreParts t.whole t.newest t.sent };
 }
 
 impl Trx {
-    ghost use Rattle.client_trx.specs.Live.{begun, added, add_by, is_too_large, is_due, newest_of, has_locks, is_sent, with_status, commit_of, judged_by, killed_by};
+    ghost use Rattle.client_trx.specs.Live.{begun, added, add_by, is_too_large, is_due, newest_of, CanSendFragment, has_locks, is_sent, is_uncommitted, with_status, set_from, commit_of, fragment_of, fragment_sent, rollback_of, rollback_due, judged_by, killed_by};
 
     /// A transaction that has done nothing yet. It sends a fragment whenever it made `unit`
     /// changes since the last one; 0 sends none.
@@ -114,6 +115,7 @@ impl Trx {
         ensures ok { IfOk result (λ told. (told, self.new) ≡ add_by self.old parts.now kind op) }
         ensures err { OnErr result (self.new ≡ self.old) }
         ensures fits { OnErr result (is_too_large (added self.old parts.now kind op) ≡ false) }
+        ensures due { IfOk result (λ told. told ≡ told_as.Fragment → CanSendFragment self.new) }
     {
         if self.whole.is_over_with(parts, &op) {
             return Ok(Added::TooLarge);
@@ -126,6 +128,7 @@ impl Trx {
         }
     }
 
+    // Room for the key and the change is made before either part changes.
     fn extend(&mut self, parts: &Parts, kind: Kind, op: &Option<Op>) -> Result<(), NoMemory>
         requires names { IsTrue (parts_fit parts.now) }
         requires change { IfSome op.now (λ op. IsKeyOf parts.now kind op) }
@@ -133,29 +136,109 @@ impl Trx {
         ensures ok { OnOk result (self.new ≡ added self.old parts.now kind op.now) }
         ensures err { OnErr result (self.new ≡ self.old) }
     {
-        let newest = extended(&self.newest, parts, kind, op)?;
+        settle(&mut self.newest)?;
         self.whole.add(parts, kind, op)?;
-        self.newest = newest;
+        let gain = Gain {
+            parts: *parts,
+            kind,
+            op: *op,
+        };
+        put_last(&mut self.newest, gain);
         Ok(())
     }
 
     fn is_due(&self) -> bool
         ensures { result ≡ is_due self.now }
     {
-        self.unit > 0 && self.unit == self.newest().ops().len() as u64
+        self.unit > 0 && self.unit == self.new_count() as u64
     }
 
-    // The keys and changes since the last fragment.
-    fn newest(&self) -> &KeyedOps
-        ensures { result.now ≡ newest_of self.now }
+    // The number of changes since the last fragment.
+    fn new_count(&self) -> usize
+        ensures { result ≡ length self.now.new_ops }
     {
         match &self.newest {
-            Some(newest) => newest,
-            None => &self.whole,
+            Some(newest) => newest.count(),
+            None => self.whole.ops().len(),
         }
     }
 
-    /// The write set of its commit, which is then sent.
+    // The keys and changes since the last fragment, in memory of their own.
+    fn gathered(&self) -> Result<KeyedOps, NoMemory>
+        ensures { IfOk result (λ all. all ≡ newest_of self.now) }
+    {
+        match &self.newest {
+            Some(newest) => newest.copied(),
+            None => self.whole.copy(),
+        }
+    }
+
+    // The write set of these keys and changes.
+    fn write_set(&self, all: KeyedOps, serial: u64, last_seen: u64, flags: u8) -> WriteSet
+        ensures set { result ≡ set_from self.now all serial last_seen flags }
+        ensures fit { IsFit result.keys result.ops }
+    {
+        let (keys, ops) = all.into_parts();
+        WriteSet {
+            member: self.id.member,
+            serial,
+            begin: self.id.begin,
+            fragment: self.sent,
+            flags,
+            last_seen,
+            keys,
+            ops,
+        }
+    }
+
+    /// The write set of its next fragment, which is then sent: it has gathered nothing since.
+    pub fn make_fragment(&mut self, serial: u64, last_seen: u64) -> Result<WriteSet, NoMemory>
+        requires due { CanSendFragment self.old }
+        ensures set { IfOk result (λ set. set ≡ fragment_of self.old serial last_seen) }
+        ensures valid { IfOk result (λ set. IsTrue (obeys set)) }
+        ensures ok { OnOk result (self.new ≡ fragment_sent self.old) }
+        ensures err { OnErr result (self.new ≡ self.old) }
+    {
+        let all = self.gathered()?;
+        let set = self.write_set(all, serial, last_seen, fragment_flags(self.sent));
+        self.send_fragment();
+        Ok(set)
+    }
+
+    /// The write set of the fragment that one more key and change would make due. With it a node
+    /// has all memory of a fragment before anything changes.
+    pub fn fragment_with(
+        &self,
+        parts: &Parts,
+        kind: Kind,
+        op: &Option<Op>,
+        serial: u64,
+        last_seen: u64,
+    ) -> Result<WriteSet, NoMemory>
+        requires names { IsTrue (parts_fit parts.now) }
+        requires change { IfSome op.now (λ op. IsKeyOf parts.now kind op) }
+        requires room { is_too_large (added self.now parts.now kind op.now) ≡ false }
+        ensures set { IfOk result (λ set. set ≡ fragment_of (added self.now parts.now kind op.now) serial last_seen) }
+        ensures valid { IfOk result (λ set. IsTrue (obeys set)) }
+    {
+        let flags = fragment_flags(self.sent);
+        let mut all = self.gathered()?;
+        all.add(parts, kind, op)?;
+        Ok(self.write_set(all, serial, last_seen, flags))
+    }
+
+    /// Its next fragment is sent: it has gathered nothing since. It takes no memory.
+    pub fn send_fragment(&mut self)
+        requires due { CanSendFragment self.old }
+        ensures { self.new ≡ fragment_sent self.old }
+    {
+        self.newest = nothing_new(self.whole.keys().alloc());
+        self.sent += 1;
+        self.status = Status::FragmentSent;
+    }
+
+    /// The write set of its commit, which is then sent. It carries what came since the last
+    /// fragment; with nothing, it is an END without change, which commits the fragments.
     pub fn make_commit(&mut self, serial: u64, last_seen: u64) -> Result<WriteSet, NoMemory>
         requires running { self.old.status ≡ status.Running }
         ensures set { IfOk result (λ set. set ≡ commit_of self.old serial last_seen) }
@@ -163,21 +246,44 @@ impl Trx {
         ensures ok { OnOk result (self.new ≡ with_status self.old status.CommitSent) }
         ensures err { OnErr result (self.new ≡ self.old) }
     {
-        let newest = self.newest();
-        let keys = newest.keys().copy()?;
-        let ops = newest.ops().copy()?;
-        let set = WriteSet {
+        let all = self.gathered()?;
+        let set = self.write_set(all, serial, last_seen, commit_flags(self.sent));
+        self.status = Status::CommitSent;
+        Ok(set)
+    }
+
+    /// The write set that takes its fragments back. The transaction stays as it is until it ends.
+    pub fn make_rollback(&self, serial: u64, last_seen: u64) -> Result<WriteSet, NoMemory>
+        requires uncommitted { IsTrue (is_uncommitted self.now.status) }
+        ensures set { IfOk result (λ set. set ≡ rollback_of self.now serial last_seen) }
+        ensures valid { IfOk result (λ set. IsTrue (obeys set)) }
+        ensures succeeds { IsOk result }
+    {
+        let alloc = self.whole.keys().alloc();
+        Ok(WriteSet {
             member: self.id.member,
             serial,
             begin: self.id.begin,
-            fragment: self.sent,
-            flags: commit_flags(self.sent),
+            fragment: 0,
+            flags: ROLLBACK,
             last_seen,
-            keys,
-            ops,
-        };
-        self.status = Status::CommitSent;
-        Ok(set)
+            keys: KeySet::new(alloc)?,
+            ops: OpList::new(alloc),
+        })
+    }
+
+    /// The rollback that is sent where it ends before its commit; None where it never sent a
+    /// fragment, or its commit is sent.
+    pub fn rollback_due(&self, serial: u64, last_seen: u64) -> Result<Option<WriteSet>, NoMemory>
+        ensures set { IfOk result (λ set. set ≡ rollback_due self.now serial last_seen) }
+        ensures valid { IfOk result (λ set. IfSome set (λ set. IsTrue (obeys set))) }
+        ensures succeeds { IsOk result }
+    {
+        if self.status.is_uncommitted() && self.sent > 0 {
+            Ok(Some(self.make_rollback(serial, last_seen)?))
+        } else {
+            Ok(None)
+        }
     }
 
     /// Takes the verdict on the write set that it sent, which has number `n`.
@@ -241,29 +347,13 @@ fn commit_flags(sent: u32) -> u8
     if sent == 0 { START | END } else { END }
 }
 
-// A copy with one more key, and the change where there is one.
-fn extended(
-    newest: &Option<KeyedOps>,
-    parts: &Parts,
-    kind: Kind,
-    op: &Option<Op>,
-) -> Result<Option<KeyedOps>, NoMemory>
-    requires names { IsTrue (parts_fit parts.now) }
-    requires change { IfSome op.now (λ op. IsKeyOf parts.now kind op) }
-    requires room { IfSome newest.now (λ part. is_over (with_change part parts.now kind op.now) ≡ false) }
-    ensures { IfOk result (λ more. more ≡ option_map (λ part. with_change part parts.now kind op.now) newest.now) }
+fn fragment_flags(sent: u32) -> u8
+    ensures { result ≡ fragment_flags sent }
 {
-    match newest {
-        Some(newest) => {
-            let mut more = newest.copy()?;
-            more.add(parts, kind, op)?;
-            Ok(Some(more))
-        }
-        None => Ok(None),
-    }
+    if sent == 0 { START } else { 0 }
 }
 
-fn copied(newest: &Option<KeyedOps>) -> Result<Option<KeyedOps>, NoMemory>
+fn copied(newest: &Option<Newest>) -> Result<Option<Newest>, NoMemory>
     ensures { IfOk result (λ same. same ≡ newest.now) }
 {
     match newest {

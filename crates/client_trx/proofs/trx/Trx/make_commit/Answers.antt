@@ -1,8 +1,10 @@
-use Rattle.std.proofs.Common.{◌∙◌}
-use Rattle.client_trx.proofs.FitLemmas.{same_fit, commit_obeys}
+use Rattle.std.proofs.Common.{ap, ◌∙◌}
+use Rattle.client_trx.specs.Live.{Live, commit_flags}
+use Rattle.client_trx.proofs.FitLemmas.{commit_valid}
 use Rattle.client_trx.proofs.trx.Trx.make_commit.Goals as goal
 
 pub returns-clause-valid : goal.returns-clause-valid
 returns-clause-valid c =
-    commit_obeys _ c.commit_flags.ensures (same_fit _ _ _ _ c.keys.ensures.fit
-    (c.in_ok-keys.ensures ∙ c.keys.ensures.value) (c.in_ok-ops.ensures ∙ c.ops.ensures.value))
+    commit_valid c.args.self.now c.in_ok-all.all c.args.serial c.args.last_seen c.commit_flags.result c.write_set-set.result
+    c.write_set-set.ensures.set (c.commit_flags.ensures ∙ ap (λ (t : Live). commit_flags t.sent) c.self.view_is)
+    c.write_set-set.ensures.fit

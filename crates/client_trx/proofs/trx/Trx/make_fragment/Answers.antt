@@ -1,0 +1,10 @@
+use Rattle.std.proofs.Common.{ap, ◌∙◌}
+use Rattle.client_trx.specs.Live.{Live, fragment_flags}
+use Rattle.client_trx.proofs.FitLemmas.{fragment_valid}
+use Rattle.client_trx.proofs.trx.Trx.make_fragment.Goals as goal
+
+pub returns-clause-valid : goal.returns-clause-valid
+returns-clause-valid c =
+    fragment_valid c.args.self.now c.in_ok-all.all c.args.serial c.args.last_seen c.fragment_flags.result c.write_set-set.result
+    c.write_set-set.ensures.set (c.fragment_flags.ensures ∙ ap (λ (t : Live). fragment_flags t.sent) c.self.view_is)
+    c.write_set-set.ensures.fit
