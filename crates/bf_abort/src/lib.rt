@@ -1,6 +1,7 @@
-//! Brute-force abort: which sessions' transactions a unit that starts has to abort.
+//! Brute-force abort: which sessions' transactions a unit that starts has to abort, and what each
+//! becomes and releases.
 #![tactic(auto)]
 
 mod aborting;
 
-pub use aborting::victims;
+pub use aborting::{abort, victims};
