@@ -24,7 +24,7 @@ use Rattle.cert_meaning.specs.Verdict as rules
 use Rattle.cert_meaning.specs.Verdict.{trx_of}
 use Rattle.cert_meaning.specs.Fold.{state_at}
 use Rattle.client_trx.specs.KeyedOps.{IsFit, IsPart}
-use Rattle.client_trx.specs.Live.{Live, whole_of, newest_of, commit_flags}
+use Rattle.client_trx.specs.Live.{Live, whole_of, newest_of, commit_flags, fragment_flags}
 use Rattle.client_trx.specs.declared.status.Status.{Status}
 use Rattle.client_trx.specs.declared.status.Status.TheVariants as status
 use Rattle.row_locks.specs.declared.holder.Holder.{Holder}
@@ -118,10 +118,6 @@ pub record Gathered (s : FoldState) (t : Live) (keys : Keys) (ops : List Op)
   pub whole : length (fragments_of s t.trx) ≡ sent
       → (t.keys ≡ whole_keys (fragments_of s t.trx) keys)
       × (t.ops ≡ whole_ops (fragments_of s t.trx) ops)
-
--- START 1 where it is the first
-abbrev pub fragment_flags : ℕ → ℕ
-fragment_flags sent = if sent == 0 then 1 else 0
 
 -- the write set is the last fragment that the transaction sent, and it has gathered nothing since
 pub record IsFragmentOf (s : FoldState) (t : Live) (w : WriteSet) : Type 0 where

@@ -28,6 +28,7 @@ use Rattle.client_trx.specs.declared.status.Status.TheVariants as status
 use Rattle.client_trx.specs.declared.status.Outcome.{Outcome}
 use Rattle.client_trx.specs.declared.status.Outcome.TheVariants.{Lives, Ends}
 use Rattle.client_trx.specs.Live.{Live, is_sent, judged_by, killed_by}
+pub use Rattle.trx_replay.specs.Replay.{is_certified_at, is_replaying_at, is_local, committer_of}
 use Rattle.row_locks.specs.Locks.{touching_sessions}
 use Rattle.node_meaning.specs.declared.progress.Stage.{Stage}
 use Rattle.node_meaning.specs.declared.progress.Stage.TheVariants.{Started, Finished}
@@ -136,26 +137,6 @@ certify_step order n =
     else certify_event order n (slice_get order n.at.certified)
 
 -- ---- units
-abbrev pub is_certified_at : ℕ → Status → Bool
-is_certified_at number status.Running = false
-is_certified_at number status.FragmentSent = false
-is_certified_at number status.CommitSent = false
-is_certified_at number (status.Certified own) = number == own
-is_certified_at number status.KilledSent = false
-is_certified_at number (status.Replaying own) = false
-
-abbrev pub is_replaying_at : ℕ → Status → Bool
-is_replaying_at number status.Running = false
-is_replaying_at number status.FragmentSent = false
-is_replaying_at number status.CommitSent = false
-is_replaying_at number (status.Certified own) = false
-is_replaying_at number status.KilledSent = false
-is_replaying_at number (status.Replaying own) = number == own
-
--- whether a live transaction is Certified at this number
-abbrev pub is_local : FiniteMap nat_cmp Live → ℕ → Bool
-is_local live number = list_any (λ e. is_certified_at number e.1.status) live.entries
-
 -- a session's transaction is aborted by this unit
 abbrev pub killed_session : ℕ → ModelNode → ℕ → Option Live → ModelNode
 killed_session number n session None = n
@@ -220,12 +201,7 @@ abbrev pub is_finished : Option ApplyUnit → Bool
 is_finished None = false
 is_finished (Some unit) = is_finished_stage unit.stage
 
--- the session of the transaction that commits at this number, if one does
-abbrev pub committer_of : FiniteMap nat_cmp Live → ℕ → Option (ℕ × Live)
-committer_of live number =
-    find (λ e. is_certified_at number e.1.status || is_replaying_at number e.1.status) live.entries
-
--- that transaction ends, and its session is told so
+-- the transaction that commits at a number ends, and its session is told so
 abbrev pub told_committed : ModelNode → ℕ → Option (ℕ × Live) → ModelNode
 told_committed n number None = n
 told_committed n number (Some e) = end_with n e.0 (reply.Committed number)

@@ -1,11 +1,12 @@
 ghost use Rattle.std.specs.Prelude.{◌≡◌, ◌≤◌, option_map, IfSome};
 ghost use Rattle.std.specs.List.{find};
-ghost use Rattle.node_meaning.specs.Steps as steps;
+ghost use Rattle.node_meaning.specs.Steps.{session_of as with_begin};
+ghost use Rattle.trx_replay.specs.Replay as replay;
 ghost use Rattle.node_parts.specs.Sessions.{is_wanted};
 
 use crate::slots::Slots;
-use client_trx::{Status, Trx};
-use trx_replay::ready;
+use client_trx::Trx;
+use trx_replay::{commits_at, is_certified_at};
 
 // What a transaction is looked for by.
 #[derive(Clone, Copy, Debug, PartialEq, Eq)]
@@ -20,21 +21,21 @@ pub(crate) enum Wanted {
 
 /// The session of the live transaction with this begin number.
 pub fn session_of(live: &Slots<Trx>, begin: u64) -> Option<u8>
-    ensures { result ≡ option_map (λ e. e.0) (steps.session_of live.now begin) }
+    ensures { result ≡ option_map (λ e. e.0) (with_begin live.now begin) }
 {
     find(live, Wanted::Begin(begin))
 }
 
 /// Whether a live transaction is Certified at this number.
 pub fn is_local(live: &Slots<Trx>, number: u64) -> bool
-    ensures { result ≡ steps.is_local live.now number }
+    ensures { result ≡ replay.is_local live.now number }
 {
     find(live, Wanted::CertifiedAt(number)).is_some()
 }
 
 /// The session of the live transaction that commits at this number.
 pub fn committer_of(live: &Slots<Trx>, number: u64) -> Option<u8>
-    ensures value { result ≡ option_map (λ e. e.0) (steps.committer_of live.now number) }
+    ensures value { result ≡ option_map (λ e. e.0) (replay.committer_of live.now number) }
     ensures within { IfSome result (λ session. (1 ≤ session) × (session ≤ 32)) }
 {
     find(live, Wanted::CommitsAt(number))
@@ -60,31 +61,7 @@ fn is_wanted(trx: &Trx, wanted: Wanted) -> bool
 {
     match wanted {
         Wanted::Begin(begin) => trx.begin_number() == begin,
-        Wanted::CertifiedAt(number) => is_certified_at(trx.status(), number),
-        Wanted::CommitsAt(number) => {
-            is_certified_at(trx.status(), number) || is_replaying_at(trx, number)
-        }
-    }
-}
-
-fn is_certified_at(status: Status, number: u64) -> bool
-    ensures { result ≡ steps.is_certified_at number status }
-{
-    match status {
-        Status::Certified(own) => number == own,
-        Status::Running
-        | Status::FragmentSent
-        | Status::CommitSent
-        | Status::KilledSent
-        | Status::Replaying(_) => false,
-    }
-}
-
-fn is_replaying_at(trx: &Trx, number: u64) -> bool
-    ensures { result ≡ steps.is_replaying_at number trx.now.status }
-{
-    match ready(trx) {
-        Some(own) => number == own,
-        None => false,
+        Wanted::CertifiedAt(number) => is_certified_at(trx, number),
+        Wanted::CommitsAt(number) => commits_at(trx, number),
     }
 }

@@ -1,5 +1,5 @@
 use Rattle.std.proofs.Common.{◌∙◌, ap, is_some}
-use Rattle.node_meaning.specs.Steps.{is_certified_at}
+use Rattle.trx_replay.specs.Replay.{is_certified_at}
 use Rattle.node_parts.proofs.SearchLaws.{any_found}
 use Rattle.node_parts.proofs.UnitLaws.{some_mapped}
 use Rattle.node_parts.proofs.transactions.is_local.Goals as goal
