@@ -26,14 +26,6 @@ use Rattle.node_core.specs.Starting.{Aborts}
 use Rattle.node_core.proofs.Tabling.{tabled-ended, tabled-unlocked}
 
 -- ---- what becomes of the transaction
-killed_idle : (t : Live) (st : Status) (n : ℕ) → has_locks st ≡ false → killed_in st n t ≡ (Lives, t)
-killed_idle t status.Running n none = absurd cc
-killed_idle t status.FragmentSent n none = absurd cc
-killed_idle t status.CommitSent n none = absurd cc
-killed_idle t (status.Certified m) n none = absurd cc
-killed_idle t status.KilledSent n none = refl
-killed_idle t (status.Replaying m) n none = refl
-
 outcome_of : (o p : Outcome) (t u : Live) → ◌≡◌ {A = Outcome × Live} (o, t) (p, u) → o ≡ p
 outcome_of o p t u is = ap (λ (r : Outcome × Live). r.0) is
 
@@ -43,13 +35,14 @@ trx_of o p t u is = ap (λ (r : Outcome × Live). r.1) is
 lives_not : (t u : Live) (r : Reply) → ◌≡◌ {A = Outcome × Live} (Lives, u) (Ends r, t) → ⊥
 lives_not t u r is = let outcome = ap (λ (r : Outcome × Live). r.0) is in cc
 
-killed_unlocked : (t u : Live) (st : Status) (n : ℕ) → has_locks st ≡ true → (Lives, u) ≡ killed_in st n t → has_locks u.status ≡ false
-killed_unlocked t u status.Running n locks is = absurd (lives_not t u _ is)
-killed_unlocked t u status.FragmentSent n locks is = absurd (lives_not t u _ is)
-killed_unlocked t u status.CommitSent n locks is = ap (λ (l : Live). has_locks l.status) (trx_of Lives Lives u _ is)
-killed_unlocked t u (status.Certified m) n locks is = ap (λ (l : Live). has_locks l.status) (trx_of Lives Lives u _ is)
-killed_unlocked t u status.KilledSent n locks is = absurd cc
-killed_unlocked t u (status.Replaying m) n locks is = absurd cc
+-- one that lives on has no locks
+killed_unlocked : (t u : Live) (st : Status) (n : ℕ) → t.status ≡ st → (Lives, u) ≡ killed_in st n t → has_locks u.status ≡ false
+killed_unlocked t u status.Running n at is = absurd (lives_not t u _ is)
+killed_unlocked t u status.FragmentSent n at is = absurd (lives_not t u _ is)
+killed_unlocked t u status.CommitSent n at is = ap (λ (l : Live). has_locks l.status) (trx_of Lives Lives u _ is)
+killed_unlocked t u (status.Certified m) n at is = ap (λ (l : Live). has_locks l.status) (trx_of Lives Lives u _ is)
+killed_unlocked t u status.KilledSent n at is = ap (λ (l : Live). has_locks l.status) (trx_of Lives Lives u _ is) ∙ ap has_locks at
+killed_unlocked t u (status.Replaying m) n at is = ap (λ (l : Live). has_locks l.status) (trx_of Lives Lives u _ is) ∙ ap has_locks at
 
 -- ---- the three cases
 pub kill_none : (old : Node) (live : FiniteMap nat_cmp Live) (number s : ℕ) → get old.live s ≡ None → live ≡ remove old.live s
@@ -94,18 +87,13 @@ module _ (old : Node) (number s : ℕ) (t : Live) (locks : LockState) (rows : Ro
         (tabled-unlocked base old.live old.rows rows tabled s u none committed changes);
   }
 
-  -- it has no locks, and stays as it is
-  pub kill_idle : (live : FiniteMap nat_cmp Live) → has_locks t.status ≡ false → live ≡ insert (remove old.live s) s t
-      → Aborts (λ n. kill_session number n s) old (record old { live = live; locks = locks; rows = rows })
-  kill_idle live none put = lives t live none (put ∙ insert-remove numbers old.live s t) (sym (killed_idle t t.status number none))
-
-  -- it loses its locks
-  pub kill_lives : (u : Live) (live : FiniteMap nat_cmp Live) → has_locks t.status ≡ true → live ≡ insert (remove old.live s) s u
+  -- it lives on without locks
+  pub kill_lives : (u : Live) (live : FiniteMap nat_cmp Live) → live ≡ insert (remove old.live s) s u
       → (o : Outcome) → o ≡ Lives → (o, u) ≡ killed_by number t
       → Aborts (λ n. kill_session number n s) old (record old { live = live; locks = locks; rows = rows })
-  kill_lives u live has put o is by =
+  kill_lives u live put o is by =
       let killed : ◌≡◌ {A = Outcome × Live} (Lives, u) (killed_by number t) = ap (λ (p : Outcome). (p, u)) (sym is) ∙ by in
-      lives u live (killed_unlocked t u t.status number has killed) (put ∙ insert-remove numbers old.live s u) killed
+      lives u live (killed_unlocked t u t.status number refl killed) (put ∙ insert-remove numbers old.live s u) killed
 
   -- it ends
   pub kill_ends : (u : Live) (reply : Reply) (live : FiniteMap nat_cmp Live) (waiting : FiniteMap nat_cmp Reply) → live ≡ remove old.live s

@@ -1,11 +1,10 @@
 ghost use Rattle.std.specs.Prelude.{◌≡◌, IfOk, OnErr};
-ghost use Rattle.client_trx.specs.Live.{is_sent};
 ghost use Rattle.node_meaning.specs.Steps.{verdict_of};
 ghost use Rattle.node_core.specs.Certifying.{is_write_of, told_if};
 
 use crate::answers::Certified;
 use crate::node::Node;
-use client_trx::{Outcome, Status};
+use client_trx::Outcome;
 use node_parts::session_of;
 use order_event::Event;
 use row_locks::Holder;
@@ -64,7 +63,7 @@ impl Node {
         let Some(mut trx) = self.live.take(session) else {
             return;
         };
-        if !is_sent(trx.status()) {
+        if !trx.status().is_sent() {
             self.live.put(session, trx);
             return;
         }
@@ -86,16 +85,6 @@ fn is_write_of(event: &Event, own: u32) -> bool
     match event {
         Event::Write { member, .. } => *member == own,
         Event::View { .. } | Event::Report { .. } => false,
-    }
-}
-
-// Whether a write set of the transaction waits for its verdict.
-fn is_sent(status: Status) -> bool
-    ensures { result ≡ is_sent status }
-{
-    match status {
-        Status::FragmentSent | Status::CommitSent | Status::KilledSent => true,
-        Status::Running | Status::Certified(_) | Status::Replaying(_) => false,
     }
 }
 

@@ -4,7 +4,7 @@ ghost use Rattle.finite_map.specs.FiniteMap.{get};
 use crate::node::Node;
 use crate::ranges::progress_in_range;
 use crate::refusal::row_reply;
-use client_trx::{Status, Trx};
+use client_trx::Trx;
 use key_sets::Kind;
 use node_meaning::Phase;
 use order_event::Message;
@@ -65,7 +65,7 @@ impl Node {
         ensures { result ≡ is_pending (get self.now.live session) }
     {
         match self.live.get(session) {
-            Some(trx) => trx.status() != Status::Running,
+            Some(trx) => !trx.status().is_running(),
             None => false,
         }
     }

@@ -1,13 +1,12 @@
 ghost use Rattle.std.specs.Prelude.{◌≡◌, ◌+◌, ◌<◌, ◌≤◌, ◌^◌, List, [], length, fold, IfOk, IfErr, OnOk, OnErr, IsTrue};
 ghost use Rattle.std.specs.Option.{unwrap_or};
-ghost use Rattle.client_trx.specs.Live as live;
 ghost use Rattle.node_core.specs.Starting.{unit_locked, AllClear};
 
 use crate::answers::Started;
 use crate::node::Node;
 use apply_unit::Task;
-use bf_abort::victims;
-use client_trx::{Outcome, Status};
+use bf_abort::{abort, victims};
+use client_trx::Outcome;
 use indexmap::IndexSet;
 use key_sets::{KeySet, Kind, Parts};
 use node_parts::is_local;
@@ -177,13 +176,8 @@ impl Node {
         let Some(mut trx) = self.live.take(session) else {
             return;
         };
-        self.locks.release(Holder::Session(session));
         self.rows.roll_back(session);
-        if !has_locks(trx.status()) {
-            self.live.put(session, trx);
-            return;
-        }
-        match trx.killed(number) {
+        match abort(&mut self.locks, session, &mut trx, number) {
             Outcome::Lives => self.live.put(session, trx),
             Outcome::Ends(reply) => self.waiting.put(session, reply),
         }
@@ -198,14 +192,5 @@ fn lock_unit(locks: &mut LockTable, number: u64, keys: &[(Parts, Kind)])
 {
     for (parts, kind) in keys {
         let _granted = locks.grant(Holder::Unit(number), parts, *kind);
-    }
-}
-
-fn has_locks(status: Status) -> bool
-    ensures { result ≡ live.has_locks status }
-{
-    match status {
-        Status::Running | Status::FragmentSent | Status::CommitSent | Status::Certified(_) => true,
-        Status::KilledSent | Status::Replaying(_) => false,
     }
 }
