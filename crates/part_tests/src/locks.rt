@@ -1,9 +1,12 @@
 //! Locks, and the sessions that a unit aborts.
 
-use bf_abort::victims;
+use bf_abort::{abort, victims};
+use client_trx::{Outcome, Trx};
 use key_sets::{KeySet, Kind, Parts};
 use row_locks::{Grant, Holder, LockTable};
+use row_model::Reply;
 use std::test::Fail;
+use wsrep_base::TrxId;
 
 fn parts_of(row: u8) -> Parts {
     Parts {
@@ -31,5 +34,23 @@ fn sessions_that_touch_are_victims(rt: HostRuntime) -> Result<(), Fail> {
         keys.add(&parts_of(row), Kind::Update)?;
     }
     assert_eq!(rt; victims(&locks, &keys)?.as_slice(), [1, 2].as_slice());
+    Ok(())
+}
+
+// Row 1 of a session whose transaction a unit aborts is free for another one.
+#[test]
+fn an_aborted_transaction_releases_its_locks(rt: HostRuntime) -> Result<(), Fail> {
+    let mut locks = LockTable::new(rt.alloc())?;
+    let parts = parts_of(1);
+    locks.grant(Holder::Session(2), &parts, Kind::Update)?;
+    let id = TrxId {
+        member: 1,
+        begin: 4,
+    };
+    let mut trx = Trx::begin(rt.alloc(), id, 0)?;
+    let outcome = abort(&mut locks, 2, &mut trx, 7);
+    assert_eq!(rt; outcome, Outcome::Ends(Reply::DeadlockBf(7)));
+    let free = locks.check(Holder::Session(1), &parts, Kind::Update);
+    assert_eq!(rt; free, None);
     Ok(())
 }
