@@ -5,3 +5,4 @@ pub mod TableLemmas
 pub mod LinkLemmas
 pub mod HolderListLemmas
 pub mod SessionLemmas
+pub mod AlikeLaws

@@ -1,3 +1,4 @@
 pub mod Holders
 pub mod Locks
 pub mod LockTable
+pub mod Alike

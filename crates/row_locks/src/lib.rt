@@ -2,7 +2,9 @@
 #![tactic(auto)]
 
 mod holder;
+mod laws;
 mod lock_table;
 
 pub use holder::{Grant, Holder};
+pub use laws::lock_laws;
 pub use lock_table::LockTable;

@@ -1,4 +1,4 @@
-ghost use Rattle.std.specs.Prelude.{◌≡◌, ◌+◌, ◌<◌, ◌≤◌, ◌&&◌, not, cond, None, is_some, IfOk, OnOk, OnErr, IsOk, IsSome};
+ghost use Rattle.std.specs.Prelude.{◌≡◌, ◌+◌, ◌<◌, ◌≤◌, ◌&&◌, length, not, cond, None, is_some, IfOk, OnOk, OnErr, IsOk, IsSome};
 ghost use Rattle.std.specs.List.{list_any};
 ghost use Rattle.std.specs.HashMap.{spare};
 ghost use Rattle.std.specs.Map.{lookup};
@@ -10,6 +10,7 @@ ghost use Rattle.key_sets.specs.Keys.{touches, one_key};
 ghost use Rattle.key_sets.specs.Kinds.{kinds_touch};
 ghost use Rattle.key_sets.specs.Parts.{same_parts, table_of};
 ghost use Rattle.key_sets.specs.Probes.{passes};
+ghost use Rattle.row_locks.specs.Alike.{HoldAlike, with_held};
 ghost use Rattle.row_locks.specs.Holders.{holder_cmp, same_holder};
 ghost use Rattle.row_locks.specs.Locks.{blocker, granted, is_blocked_by, keys_at, touching_sessions, with_lock};
 ghost use Rattle.row_locks.specs.LockTable.{has_row_of, links, lock_after, lock_eq, place, touched_session};
@@ -89,6 +90,21 @@ impl LockTable {
         }
         self.add(holder, parts, kind)?;
         Ok(Grant::Held)
+    }
+
+    /// Gives a holder all these keys, with no test of who else has them. There is room for them.
+    /// Where the holder has a key, the stronger kind stays.
+    pub fn hold(&mut self, holder: Holder, keys: &[(Parts, Kind)])
+        requires room { length keys.now ≤ self.old.spare }
+        ensures keys { HoldAlike self.new.locks (with_held self.old.locks holder keys.now) }
+        ensures spare { self.old.spare ≤ self.new.spare + length keys.now }
+    {
+        for (parts, kind) in keys {
+            match self.add(holder, parts, *kind) {
+                Ok(()) => {}
+                Err(_) => unreachable!(),
+            }
+        }
     }
 
     /// The least of the other holders that have a key that touches this one: who would make a
