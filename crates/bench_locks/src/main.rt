@@ -1,6 +1,7 @@
 //! Measures the calls of the table of locks and of rows with owners, beside 1,000 and 100,000
-//! entries of others. With no argument it does one round of each and prints what it found; with
-//! any argument it prints nanoseconds a round.
+//! entries of four others, and the calls of the table of locks beside 1 to 4,000 other holders.
+//! With no argument it does one round of each and prints what it found; with any argument it prints
+//! nanoseconds a round.
 #![tactic(auto)]
 
 use anyhow::Result;
@@ -20,6 +21,7 @@ const OWN: u8 = 5;
 #[derive(Clone, Copy)]
 enum Work {
     Check,
+    CheckFree,
     GrantAndRelease,
     Committed,
     WriteAndRollBack,
@@ -29,6 +31,7 @@ impl Work {
     fn name(self) -> &'static str {
         match self {
             Work::Check => "check",
+            Work::CheckFree => "check, free",
             Work::GrantAndRelease => "grant, release",
             Work::Committed => "committed",
             Work::WriteAndRollBack => "write, roll_back",
@@ -39,12 +42,8 @@ impl Work {
     fn done(self, tables: &mut Tables, number: u32) -> Result<u64, NoMemory> {
         let id = row_id(number);
         match self {
-            Work::Check => {
-                let blocker = tables
-                    .locks
-                    .check(Holder::Session(OWN), &parts_of(&id), Kind::Update);
-                Ok(u64::from(blocker.is_some()))
-            }
+            Work::Check => Ok(tables.blocked(&parts_of(&id))),
+            Work::CheckFree => Ok(tables.blocked(&free_parts(&id))),
             Work::GrantAndRelease => tables.grant_and_release(&id),
             Work::Committed => Ok(u64::from(tables.rows.committed(&id).is_some())),
             Work::WriteAndRollBack => tables.write_and_roll_back(&id),
@@ -78,10 +77,27 @@ impl Tables {
         Ok(Tables { locks, rows })
     }
 
-    // A key of the row's table that nobody has is granted, and goes.
+    // So many units, each with a key of a row of its own, and no rows.
+    fn held(alloc: Global, holders: u32) -> Result<Tables, NoMemory> {
+        let mut locks = LockTable::new(alloc)?;
+        for number in 0..holders {
+            let parts = parts_of(&row_id(number));
+            locks.reserve(1)?;
+            locks.hold(Holder::Unit(u64::from(number)), &[(parts, Kind::Exclusive)]);
+        }
+        let rows = Overlay::new(alloc)?;
+        Ok(Tables { locks, rows })
+    }
+
+    // 1 where another holder is in the way of the key.
+    fn blocked(&self, parts: &Parts) -> u64 {
+        let blocker = self.locks.check(Holder::Session(OWN), parts, Kind::Update);
+        u64::from(blocker.is_some())
+    }
+
+    // A key that nobody has is granted, and goes.
     fn grant_and_release(&mut self, id: &RowId) -> Result<u64, NoMemory> {
-        let mut parts = parts_of(id);
-        parts.table[1] = b'u';
+        let parts = free_parts(id);
         let grant = self
             .locks
             .grant(Holder::Session(OWN), &parts, Kind::Exclusive)?;
@@ -118,6 +134,13 @@ fn parts_of(id: &RowId) -> Parts {
     }
 }
 
+// The key of the same row in a table that nobody has keys of.
+fn free_parts(id: &RowId) -> Parts {
+    let mut parts = parts_of(id);
+    parts.table[1] = b'u';
+    parts
+}
+
 // So many rounds, each on another row; the sum of what they found.
 fn all_rounds(work: Work, rounds: u32, tables: &mut Tables) -> Result<u64, NoMemory> {
     let mut found: u64 = 0;
@@ -127,9 +150,34 @@ fn all_rounds(work: Work, rounds: u32, tables: &mut Tables) -> Result<u64, NoMem
     Ok(found)
 }
 
+// One measure: one round and what it found, or nanoseconds a round.
+fn measure(
+    rt: HostRuntime,
+    timed: bool,
+    work: Work,
+    beside: &str,
+    count: u32,
+    tables: &mut Tables,
+) -> Result<()> {
+    let rounds = if timed { 20_000 } else { 1 };
+    let start = Instant::now(&rt)?;
+    let found = all_rounds(work, rounds, tables)?;
+    let nanos = start.elapsed(&rt)?.as_nanos();
+    let name = work.name();
+    if timed {
+        let each = nanos / u128::from(rounds);
+        println!(rt;
+            "{:>16} beside {:>6} {}: {:>6} ns",
+            name, count, beside, each
+        )?;
+    } else {
+        println!(rt; "{} beside {} {}: {}", name, count, beside, found)?;
+    }
+    Ok(())
+}
+
 fn main(rt: HostRuntime) -> Result<()> {
     let timed = env::args(&rt)?.count() > 1;
-    let rounds = if timed { 20_000 } else { 1 };
     for count in [1_000, 100_000] {
         let mut tables = Tables::filled(rt.alloc(), count)?;
         for work in [
@@ -138,20 +186,13 @@ fn main(rt: HostRuntime) -> Result<()> {
             Work::Committed,
             Work::WriteAndRollBack,
         ] {
-            let start = Instant::now(&rt)?;
-            let found = all_rounds(work, rounds, &mut tables)?;
-            let nanos = start.elapsed(&rt)?.as_nanos();
-            if timed {
-                let each = nanos / u128::from(rounds);
-                println!(rt;
-                    "{:>16} beside {:>6} entries: {:>6} ns",
-                    work.name(),
-                    count,
-                    each
-                )?;
-            } else {
-                println!(rt; "{} beside {} entries: {}", work.name(), count, found)?;
-            }
+            measure(rt, timed, work, "entries", count, &mut tables)?;
+        }
+    }
+    for count in [1, 60, 4_000] {
+        let mut tables = Tables::held(rt.alloc(), count)?;
+        for work in [Work::Check, Work::CheckFree, Work::GrantAndRelease] {
+            measure(rt, timed, work, "holders", count, &mut tables)?;
         }
     }
     Ok(())
