@@ -6,12 +6,12 @@ use Rattle.std.specs.Cmp.{nat_cmp_total}
 use Rattle.std.proofs.lemmas.Bool.{eqb-true, eq-eqb, false_from_ne_true}
 use Rattle.std.proofs.lemmas.Option.{same_Some}
 use Rattle.finite_map.proofs.Edits.{numbers, left, tied, untied}
-use Rattle.finite_map.specs.FiniteMap.{FiniteMap, get, insert, remove, get-remove, same_map}
-use Rattle.row_model.specs.declared.row.RowId.{RowId}
+use Rattle.finite_map.specs.FiniteMap.{FiniteMap, get, insert, remove, get-remove}
 use Rattle.row_model.specs.declared.calls.Reply.TheVariants as reply
-use Rattle.row_model.specs.Rows.{Rows}
-use Rattle.row_model.specs.RowOrder.{row_total, row_exact}
+use Rattle.row_model.specs.Rows.{Rows, ops_on}
 use Rattle.row_locks.specs.declared.holder.Holder.TheVariants.{Session, Unit as UnitHolder}
+use Rattle.row_locks.specs.Alike.{HoldAlike}
+use Rattle.row_locks.proofs.AlikeLaws.{alike_between, alike-remove}
 use Rattle.order_event.specs.declared.event.Event.{Event}
 use Rattle.order_event.specs.declared.step.Answer.{Answer}
 use Rattle.order_event.specs.declared.step.Answer.TheVariants as answer
@@ -23,13 +23,11 @@ use Rattle.certification.proofs.Ahead.{commit-is}
 use Rattle.client_trx.specs.declared.status.Status.{Status}
 use Rattle.client_trx.specs.declared.status.Status.TheVariants as status
 use Rattle.client_trx.specs.Live.{Live, has_locks}
-use Rattle.undo_rows.specs.RowTable.{RowTable, seen, without as without_owner}
-use Rattle.node_meaning.specs.Node.{ModelNode, ApplyUnit, rows_at, passed_at, locks_of}
+use Rattle.node_meaning.specs.Node.{ModelNode, ApplyUnit, rows_at, seen_rows, passed_at, locks_of}
 use Rattle.node_meaning.specs.declared.progress.Stage.{Stage}
 use Rattle.node_meaning.specs.declared.progress.Stage.TheVariants as stage
 use Rattle.node_meaning.specs.Steps.{is_certified_at, is_replaying_at, is_local, is_finished, committer_of, told_committed, committed_next, is_ready, advance_step}
 use Rattle.node_meaning.specs.Units.{ops_at, unit_task}
-use Rattle.node_meaning.specs.Facts.{Facts}
 use Rattle.node_meaning.proofs.EntryLaws.{less_from, some_not_none}
 use Rattle.node_meaning.proofs.PassedLaws.{numbered_within, passed-is}
 use Rattle.node_meaning.proofs.LockLaws.{locks_of-remove, locks_of-remove_unit}
@@ -41,24 +39,10 @@ use Rattle.node_core.specs.Tabled.{Tabled}
 use Rattle.node_core.specs.Advancing.{AreFree, results_of, TakesUnit, IsCommitted, AfterCommitter}
 use Rattle.node_core.proofs.KeptFacts.{facts_advanced}
 use Rattle.node_core.specs.Stands.{Stands, Tables, AreWorked, IsWorked, HasTask, DoneOver, plain_of}
-use Rattle.node_core.proofs.Tabling.{tabled_committed, tabled-ended, tabled-put, tabled-kept}
+use Rattle.node_core.proofs.Tabling.{tabled-put, tabled-kept}
 use Rattle.node_core.proofs.CertifyCalls.{two_ways}
 use Rattle.node_core.proofs.UnitRows.{unit_free, unit_length, rows_left}
 use Rattle.node_core.proofs.ImageCalls.{put_named}
-
--- a transaction without locks ends, and nothing of it becomes committed
-module _ (rows : Rows) (live : FiniteMap nat_cmp Live) (table after : RowTable) (tabled : Tabled rows live table) where
-  tabled-gone : (s : ℕ) (t : Live) → get live s ≡ Some t → has_locks t.status ≡ false
-      → ((id : RowId) → get after.committed id ≡ seen table s id) → after.changes ≡ without_owner table.changes s
-      → Tabled rows (remove live s) after
-  tabled-gone s t there none kept gone =
-      tabled-ended rows live table after tabled s
-      (same_map row_total row_exact after.committed table.committed (λ id.
-      kept id
-      ∙ tabled_committed rows live table tabled s id
-      (λ u is. ap (λ (l : Live). has_locks l.status) (same_Some u t (sym is ∙ there)) ∙ none)
-      ∙ ap (λ r. get r id) (sym tabled.committed)))
-      gone
 
 not_some : {A : Type 0} (o : Option A) → not (is_some o) ≡ is_none o
 not_some None = refl
@@ -178,8 +162,8 @@ module _ (order : List Event) (old : Node) (stands : Stands order old) where
           ∙ put_named (ops_at order next) (rows_at order old.at.committed)
           ∙ sym event)
           takes.changes
-          (λ o u id is locks changes. ap (λ r. get r id) event
-          ∙ rows_left order (plain_of old) stands.facts next task.0 task.1 (rows_at order old.at.committed) o u id is locks changes)
+          (λ q id row made. ap (λ r. get r id) event
+          ∙ rows_left order (plain_of old) stands.facts next task.0 task.1 (rows_at order old.at.committed) q id row made)
 
       rows_waiting : is_finished (get old.units.units next) ≡ false → Tabled (rows_at order old.at.committed) old.live mid.rows
       rows_waiting none =
@@ -188,7 +172,7 @@ module _ (order : List Event) (old : Node) (stands : Stands order old) where
           (no_results (done_of (get old.units.work next)) (takes.finished ∙ none))
           ∙ stands.tables.rows.committed)
           takes.changes
-          (λ o u id is locks changes. refl)
+          (λ q id row made. refl)
 
       -- ---- the rows after the transaction
       passed_or : {P : Type 0} (o : Option CommitItem) → passed_at order old.at.committed old.at.certified next ≡ o
@@ -209,23 +193,30 @@ module _ (order : List Event) (old : Node) (stands : Stands order old) where
         here : (get old.live s ≡ Some t) × (commits_at next (s, t) ≡ true)
         here = committer_there order (plain_of old) stands.facts next s t one
 
+        -- what the session saw is committed
+        kept : (rows : Rows) → Tabled rows old.live mid.rows → (b : Bool) → has_locks t.status ≡ b
+            → Tabled (cond b (ops_on t.ops rows) rows) (remove old.live s) new.rows
+        kept rows tabled b locks =
+            subst (λ r. Tabled r (remove old.live s) new.rows)
+            (ap (seen_rows rows) here.0 ∙ ap (λ b. cond b (ops_on t.ops rows) rows) locks)
+            (tabled-kept rows old.live mid.rows new.rows tabled s is.committed is.changes)
+
         kept_locks : has_locks t.status ≡ true → Tabled (rows_at order next) (remove old.live s) new.rows
         kept_locks locks =
             let certified = certified_locks next t.status here.1 locks in
             let none = units-local order (plain_of old) stands.facts more s t one certified in
             subst (λ rows. Tabled rows (remove old.live s) new.rows) (sym (rows-committer order (plain_of old) stands.facts more s t one))
-            (tabled-kept (rows_at order old.at.committed) old.live mid.rows new.rows (rows_waiting (ap is_finished none)) s t here.0 locks
-            is.committed is.changes)
+            (kept (rows_at order old.at.committed) (rows_waiting (ap is_finished none)) true locks)
 
         kept_nothing : has_locks t.status ≡ false → Tabled (rows_at order next) (remove old.live s) new.rows
         kept_nothing none =
             passed_or (passed_at order old.at.committed old.at.certified next) refl
             (λ absent. absurd (some_not_none (s, t) (committer_of old.live next) one (committer-none order (plain_of old) stands.facts more absent)))
-            (λ c passed. tabled-gone (rows_at order next) old.live mid.rows new.rows
+            (λ c passed. kept (rows_at order next)
             (rows_finished (unit-finished order (plain_of old) stands.facts more c passed
             (not_local order (plain_of old) stands.facts more (λ o u other.
             ap (λ (e : ℕ × Live). is_certified_at next e.1.status) (same_Some (o, u) (s, t) (sym other ∙ one)) ∙ no_locks next t.status none)) ready))
-            s t here.0 none is.committed is.changes)
+            false none)
 
         rows_some : Tabled (rows_at order next) (remove old.live s) new.rows
         rows_some = two_ways (has_locks t.status) kept_locks kept_nothing
@@ -263,7 +254,7 @@ module _ (order : List Event) (old : Node) (stands : Stands order old) where
             live = parts.live;
             waiting = parts.waiting;
           })
-          (locks : parts.locks.locks ≡ locks_of parts.live (remove old.units.units next))
+          (locks : HoldAlike parts.locks.locks (locks_of parts.live (remove old.units.units next)))
           (rows : Tabled (rows_at order next) parts.live parts.rows)
           (spare : mid.rows.spare ≤ parts.rows.spare)
           (certifies : Certifies order next old.at.certified target.certification) where
@@ -292,7 +283,7 @@ module _ (order : List Event) (old : Node) (stands : Stands order old) where
           rows = parts.rows;
         })
         committed_tables = record {
-          locks = locks ∙ ap (λ (u : UnitTable). locks_of parts.live u.units) (sym units);
+          locks = subst (λ (u : UnitTable). HoldAlike parts.locks.locks (locks_of parts.live u.units)) (sym units) locks;
           rows = rows;
           units = subst (AreWorked order) (sym units) units_left;
           room = let left_room : parts.units.room ≡ (without old.units next).room = ap (λ (u : UnitTable). u.room) units in
@@ -322,9 +313,11 @@ module _ (order : List Event) (old : Node) (stands : Stands order old) where
       mid_waiting : mid.waiting ≡ old.waiting
       mid_waiting = ap (λ (m : Node). m.waiting) takes.rest
 
-      mid_locks : mid.locks.locks ≡ locks_of old.live (remove old.units.units next)
+      mid_locks : HoldAlike mid.locks.locks (locks_of old.live (remove old.units.units next))
       mid_locks =
-          takes.locks ∙ ap (λ l. remove l (UnitHolder next)) stands.tables.locks ∙ sym (locks_of-remove_unit old.live old.units.units next)
+          alike_between _ _ _ _ takes.locks
+          (alike-remove old.locks.locks (locks_of old.live old.units.units) (UnitHolder next) stands.tables.locks)
+          (sym (locks_of-remove_unit old.live old.units.units next))
 
       module _ (new target : Node)
           (target_is : target ≡ record new { at = record new.at { committed = old.at.committed + 1 }; certification = target.certification })
@@ -354,7 +347,8 @@ module _ (order : List Event) (old : Node) (stands : Stands order old) where
             (ap (told_committed (record (plain_of old) { at = record old.at { committed = old.at.committed + 1 }; units = remove old.units.units next }) next) none
             ∙ ap (λ l. record (plain_of old) { at = record old.at { committed = old.at.committed + 1 }; units = remove old.units.units next; live = l }) (sym live_is)
             ∙ ap (λ w. record (plain_of old) { at = record old.at { committed = old.at.committed + 1 }; units = remove old.units.units next; live = new.live; waiting = w }) (sym waiting_is))
-            (ap (λ (m : Node). m.locks.locks) is ∙ mid_locks ∙ ap (λ l. locks_of l (remove old.units.units next)) (sym live_is))
+            (alike_between _ _ _ _ (ap (λ (m : Node). m.locks.locks) is) mid_locks
+            (ap (λ l. locks_of l (remove old.units.units next)) (sym live_is)))
             (subst (λ (m : Node). Tabled (rows_at order next) m.live m.rows) (sym is)
             (subst (λ l. Tabled (rows_at order next) l mid.rows) (sym mid_live) (rows_none none)))
             (omega (arith, ap (λ (m : Node). m.rows.spare) is))
@@ -374,8 +368,10 @@ module _ (order : List Event) (old : Node) (stands : Stands order old) where
             (ap (told_committed (record (plain_of old) { at = record old.at { committed = old.at.committed + 1 }; units = remove old.units.units next }) next) one
             ∙ ap (λ l. record (plain_of old) { at = record old.at { committed = old.at.committed + 1 }; units = remove old.units.units next; live = l; waiting = insert old.waiting s (reply.Committed next) }) (sym live_is)
             ∙ ap (λ w. record (plain_of old) { at = record old.at { committed = old.at.committed + 1 }; units = remove old.units.units next; live = new.live; waiting = w }) (sym waiting_is))
-            (is.locks ∙ ap (λ l. remove l (Session s)) mid_locks ∙ sym (locks_of-remove old.live (remove old.units.units next) s)
-            ∙ ap (λ l. locks_of l (remove old.units.units next)) (sym live_is))
+            (alike_between _ _ _ _ is.locks
+            (alike-remove mid.locks.locks (locks_of old.live (remove old.units.units next)) (Session s) mid_locks)
+            (sym (locks_of-remove old.live (remove old.units.units next) s)
+            ∙ ap (λ l. locks_of l (remove old.units.units next)) (sym live_is)))
             (subst (λ l. Tabled (rows_at order next) l new.rows) (sym live_is) (rows_some s t one new is))
             is.spare
             (whole_certified base)

@@ -1,24 +1,22 @@
 -- A unit that begins: its entry, the kills and its locks together are the model's start.
-use Rattle.std.proofs.Common.{◌≡◌, ℕ, ◌+◌, ◌≤◌, false, cond, List, length, take, drop, fold, refl, sym, ap, subst, ◌∙◌, arith}
+use Rattle.std.proofs.Common.{◌≡◌, ℕ, ◌+◌, ◌≤◌, Bool, true, false, cond, List, length, take, drop, fold, refl, sym, ap, subst, ◌∙◌, arith}
 use Rattle.std.specs.Prelude.{Option, Some, None}
 use Rattle.std.specs.Ordering.{nat_cmp, eq_by_cmp}
-use Rattle.std.specs.Cmp.{nat_cmp_total, eq_by_cmp_equiv}
-use Rattle.std.specs.Option.{unwrap_or}
+use Rattle.std.specs.Cmp.{nat_cmp_total}
 use Rattle.finite_map.proofs.Edits.{numbers, itself, Inserted, AtKey, Elsewhere, inserted}
 use Rattle.finite_map.specs.FiniteMap.{FiniteMap, empty, get, insert, get-insert}
-use Rattle.key_sets.specs.Keys.{Keys, touches}
-use Rattle.row_model.specs.Rows.{Rows}
+use Rattle.key_sets.specs.Keys.{Keys, with_keys}
+use Rattle.key_sets.proofs.UnionLaws.{union-symm, union-empty}
 use Rattle.order_event.specs.declared.event.Event.{Event}
 use Rattle.order_event.specs.declared.step.Answer.{Answer}
 use Rattle.order_event.specs.declared.step.Answer.TheVariants as answer
 use Rattle.certification.specs.Certifies.{Certifies}
 use Rattle.client_trx.specs.Live.{Live}
-use Rattle.row_locks.specs.declared.holder.Holder.{Holder}
-use Rattle.row_locks.specs.declared.holder.Holder.TheVariants.{Unit as UnitHolder}
-use Rattle.row_locks.specs.Holders.{same_holder}
-use Rattle.row_locks.specs.Locks.{LockState, Locks, keys_at, touching_sessions}
-use Rattle.row_locks.proofs.HolderLemmas.{holder_total}
-use Rattle.undo_rows.specs.RowTable.{RowTable}
+use Rattle.row_locks.specs.declared.holder.Holder.TheVariants.{Session, Unit as UnitHolder}
+use Rattle.row_locks.specs.Locks.{LockState, keys_at, touching_sessions}
+use Rattle.row_locks.specs.Alike.{HoldAlike, with_held}
+use Rattle.row_locks.proofs.AlikeLaws.{alike_between, alike-insert, touch_alike}
+use Rattle.row_locks.proofs.LockLemmas.{keys_at-insert}
 use Rattle.node_parts.specs.Units.{Work, UnitTable, added}
 use Rattle.node_meaning.specs.declared.progress.Progress.{Progress}
 use Rattle.node_meaning.specs.declared.progress.Stage.TheVariants.{Started}
@@ -26,22 +24,13 @@ use Rattle.node_meaning.specs.Node.{ModelNode, ApplyUnit, locks_of, rows_at}
 use Rattle.node_meaning.specs.Facts.{Facts}
 use Rattle.node_meaning.specs.Steps.{kill_session, started}
 use Rattle.node_meaning.specs.Units.{ops_at, named_rows}
-use Rattle.node_meaning.proofs.LockLaws.{lock_of_unit, keys_of_unit, get-locks_of-unit, get-set_lock, keys_at-unit, locks_of-insert_unit}
+use Rattle.node_meaning.proofs.LockLaws.{keys_of_unit, keys_at-session, keys_at-unit}
 use Rattle.node_core.specs.declared.node.Node.{Node}
 use Rattle.node_core.specs.Tabled.{Tabled}
 use Rattle.node_core.proofs.KeptFacts.{facts_started}
 use Rattle.node_core.specs.Stands.{AreWorked, IsWorked, DoneOver, Unchanged, plain_of}
-use Rattle.node_core.specs.Starting.{CanStart, Aborts, IsClear, unit_locked, unit_started}
-use Rattle.node_core.proofs.UnitLocks.{unit_locks}
-
--- ---- parts that are the same
-same_table : (rows : Rows) (live : FiniteMap nat_cmp Live) (table after : RowTable) → Tabled rows live table
-    → after.committed ≡ table.committed → after.changes ≡ table.changes → Tabled rows live after
-same_table rows live table after tabled committed changes = record {
-  committed = committed ∙ tabled.committed;
-  owned = λ s t id there locks names. ap (λ m. get m id) changes ∙ tabled.owned s t id there locks names;
-  owner = λ s row id there. tabled.owner s row id (ap (λ m. get m id) (sym changes) ∙ there);
-}
+use Rattle.node_core.specs.Starting.{CanStart, Aborts, unit_started}
+use Rattle.node_core.proofs.Tabling.{same_tabled}
 
 -- one more unit is worked on
 module _ (order : List Event) (table : UnitTable) (number : ℕ) (keys : Keys) (rows : ℕ) (worked : AreWorked order table)
@@ -72,21 +61,21 @@ module _ (order : List Event) (table : UnitTable) (number : ℕ) (keys : Keys) (
   worked_added : AreWorked order (added table number keys rows)
   worked_added = record { worked = λ q v h. each q v (inserted numbers table.units number new_unit q v h) }
 
--- ---- locks of a unit that others' keys do not touch
+-- ---- the keys of a unit that begins
 module _ (live : FiniteMap nat_cmp Live) (older : FiniteMap nat_cmp ApplyUnit) (number : ℕ) (unit : ApplyUnit) where
-  others_keys : (g : Holder) → same_holder (UnitHolder number) g ≡ false
-      → keys_at (locks_of live (insert older number unit)) g ≡ keys_at (locks_of live older) g
-  others_keys g other =
-      ap (λ (m : Locks). keys_at m g) (locks_of-insert_unit live older number unit)
-      ∙ ap (λ (o : Option Keys). unwrap_or o empty) (get-set_lock (locks_of live older) (UnitHolder number) (lock_of_unit (Some unit)) g)
-      ∙ ap (λ b. unwrap_or (cond b (lock_of_unit (Some unit)) (get (locks_of live older) g)) empty)
-      ((eq_by_cmp_equiv holder_total).symm g (UnitHolder number) ∙ other)
-
-  own_keys : keys_at (locks_of live (insert older number unit)) (UnitHolder number) ≡ unit.keys
-  own_keys =
-      keys_at-unit live (insert older number unit) number
-      ∙ ap keys_of_unit (get-insert nat_cmp_total older number unit number
-      ∙ ap (λ b. cond b (Some unit) (get older number)) (itself numbers number))
+  unit_begun : HoldAlike (insert (locks_of live older) (UnitHolder number) unit.keys) (locks_of live (insert older number unit))
+  unit_begun (Session s) =
+      keys_at-insert (locks_of live older) (UnitHolder number) unit.keys (Session s)
+      ∙ keys_at-session live older s ∙ sym (keys_at-session live (insert older number unit) s)
+  unit_begun (UnitHolder k) =
+      keys_at-insert (locks_of live older) (UnitHolder number) unit.keys (UnitHolder k)
+      ∙ ap (cond (eq_by_cmp nat_cmp k number) unit.keys) (keys_at-unit live older k)
+      ∙ by (eq_by_cmp nat_cmp k number) (get older k)
+      ∙ sym (keys_at-unit live (insert older number unit) k ∙ ap keys_of_unit (get-insert nat_cmp_total older number unit k))
+    where
+      by : (b : Bool) (o : Option ApplyUnit) → cond b unit.keys (keys_of_unit o) ≡ keys_of_unit (cond b (Some unit) o)
+      by true o = refl
+      by false o = refl
 
 -- ---- the call
 module _ (order : List Event) (old mid killed : Node) (number : ℕ) (keys : Keys) (rows : ℕ) (aborted : List ℕ) (units : UnitTable)
@@ -114,7 +103,7 @@ module _ (order : List Event) (old mid killed : Node) (number : ℕ) (keys : Key
       ∙ ap (λ (t : UnitTable). record n { units = t.units }) units_is
 
   aborted_is : aborted ≡ touching_sessions (locks_of old.live old.units.units) keys
-  aborted_is = victims ∙ ap (λ (m : Locks). touching_sessions m keys) can.stands.tables.locks
+  aborted_is = victims ∙ touch_alike old.locks.locks (locks_of old.live old.units.units) can.stands.tables.locks keys
 
   same : ◌≡◌ {A = Answer × ModelNode} (answer.Started number aborted, plain_of killed) (unit_started number keys n)
   same =
@@ -128,39 +117,33 @@ module _ (order : List Event) (old mid killed : Node) (number : ℕ) (keys : Key
   killed_units : killed.units ≡ added old.units number keys rows
   killed_units = kills.units ∙ units_is
 
-  killed_locks : killed.locks.locks ≡ locks_of killed.live old.units.units
+  killed_locks : HoldAlike killed.locks.locks (locks_of killed.live old.units.units)
   killed_locks =
       kills.locks old.units.units
-      (unchanged.locks ∙ can.stands.tables.locks ∙ ap (λ (m : FiniteMap nat_cmp Live). locks_of m old.units.units) (sym live_is))
+      (alike_between _ _ _ _ unchanged.locks can.stands.tables.locks
+      (ap (λ (m : FiniteMap nat_cmp Live). locks_of m old.units.units) (sym live_is)))
 
-  -- nobody is in the way any more
-  pub begin_clear : IsClear killed.locks.locks number keys
-  begin_clear = λ g other.
-      ap (λ (m : Locks). touches keys (keys_at m g)) killed_locks
-      ∙ ap (touches keys) (sym (others_keys killed.live old.units.units number unit g other))
-      ∙ ap (λ (k : Keys). touches k (keys_at (locks_of killed.live (insert old.units.units number unit)) g))
-      (sym (own_keys killed.live old.units.units number unit))
-      ∙ ap (λ (t : UnitTable). touches (keys_at (locks_of killed.live t.units) (UnitHolder number)) (keys_at (locks_of killed.live t.units) g)) (sym killed_units)
-      ∙ facts.apart (UnitHolder number) g other
-
-  module _ (locks : LockState) (granted : locks.locks ≡ unit_locked killed.locks.locks number keys.entries)
+  module _ (locks : LockState) (held : HoldAlike locks.locks (with_held killed.locks.locks (UnitHolder number) keys.entries))
       (count : rows ≡ length (named_rows (ops_at order number))) (room : mid.units.room + rows ≤ mid.rows.spare) where
-    none : get (locks_of killed.live old.units.units) (UnitHolder number) ≡ None
-    none = get-locks_of-unit killed.live old.units.units number ∙ ap lock_of_unit can.fresh
+    its_keys : with_keys (keys_at killed.locks.locks (UnitHolder number)) keys.entries ≡ keys
+    its_keys =
+        ap (λ (had : Keys). with_keys had keys.entries)
+        (killed_locks (UnitHolder number) ∙ keys_at-unit killed.live old.units.units number ∙ ap keys_of_unit can.fresh)
+        ∙ union-symm empty keys ∙ union-empty keys
 
-    locks_are : locks.locks ≡ locks_of killed.live killed.units.units
-    locks_are =
-        granted ∙ ap (λ (m : Locks). unit_locked m number keys.entries) killed_locks
-        ∙ unit_locks (locks_of killed.live old.units.units) number keys none
-        ∙ sym (locks_of-insert_unit killed.live old.units.units number unit)
-        ∙ ap (λ (t : UnitTable). locks_of killed.live t.units) (sym killed_units)
+    locks_are : HoldAlike locks.locks (locks_of killed.live killed.units.units)
+    locks_are h =
+        held h
+        ∙ alike-insert killed.locks.locks (locks_of killed.live old.units.units) (UnitHolder number) _ _ its_keys killed_locks h
+        ∙ unit_begun killed.live old.units.units number unit h
+        ∙ ap (λ (t : UnitTable). keys_at (locks_of killed.live t.units) h) (sym killed_units)
 
     rows_are : Tabled (rows_at order killed.at.committed) killed.live killed.rows
     rows_are =
         subst (λ (a : Progress). Tabled (rows_at order a.committed) killed.live killed.rows) (sym at_is)
         (kills.rows (rows_at order old.at.committed)
         (subst (λ (m : FiniteMap nat_cmp Live). Tabled (rows_at order old.at.committed) m mid.rows) (sym live_is)
-        (same_table (rows_at order old.at.committed) old.live old.rows mid.rows can.stands.tables.rows unchanged.committed unchanged.changes)))
+        (same_tabled (rows_at order old.at.committed) old.live old.rows mid.rows can.stands.tables.rows unchanged.committed unchanged.changes)))
 
     room_is : killed.units.room ≡ mid.units.room + rows
     room_is = ap (λ (t : UnitTable). t.room) (kills.units ∙ put)

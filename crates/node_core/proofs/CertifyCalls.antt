@@ -1,65 +1,31 @@
 -- Certifying the next event does what the model does.
 use Rattle.std.proofs.Common.{◌≡◌, ℕ, ◌≤◌, Bool, true, false, cond, List, Option, None, Some, refl, ap, sym, subst, ◌∙◌, arith, true≢false}
 use Rattle.std.specs.Prelude.{◌==◌, option_map}
-use Rattle.std.specs.Ordering.{nat_cmp, eq_by_cmp}
-use Rattle.std.specs.Cmp.{nat_cmp_total}
-use Rattle.std.specs.FinMap.{nat_cmp-IsAntisymmetric}
+use Rattle.std.specs.Ordering.{nat_cmp}
 use Rattle.std.proofs.lemmas.Option.{same_Some}
-use Rattle.std.proofs.lemmas.Bool.{false_from_ne_true}
-use Rattle.finite_map.proofs.Edits.{numbers, tied, insert-there, insert-remove}
-use Rattle.finite_map.specs.FiniteMap.{FiniteMap, get, insert, remove, get-insert, get-remove, same_map}
+use Rattle.finite_map.proofs.Edits.{numbers, insert-there, insert-remove}
+use Rattle.finite_map.specs.FiniteMap.{FiniteMap, get, insert, remove}
 use Rattle.wsrep_base.specs.declared.verdict.Verdict.{Verdict}
 use Rattle.wsrep_base.specs.declared.verdict.Verdict.TheVariants as verdict
-use Rattle.row_model.specs.declared.row.RowId.{RowId}
 use Rattle.row_model.specs.declared.calls.Reply.{Reply}
-use Rattle.row_model.specs.Rows.{Rows, ops_on}
 use Rattle.row_locks.specs.declared.holder.Holder.TheVariants.{Session}
+use Rattle.row_locks.specs.Alike.{HoldAlike}
+use Rattle.row_locks.proofs.AlikeLaws.{alike_between, alike-remove}
 use Rattle.client_trx.specs.declared.status.Status.{Status}
 use Rattle.client_trx.specs.declared.status.Status.TheVariants as status
 use Rattle.client_trx.specs.declared.status.Outcome.{Outcome}
 use Rattle.client_trx.specs.declared.status.Outcome.TheVariants.{Lives, Ends}
 use Rattle.client_trx.specs.Live.{Live, has_locks, is_sent, with_status, passed_status, judged_by}
-use Rattle.undo_rows.specs.RowTable.{RowTable, without}
+use Rattle.undo_rows.specs.RowTable.{without}
 use Rattle.node_meaning.specs.Node.{ModelNode, locks_of, rows_at}
 use Rattle.node_meaning.specs.Steps.{told, told_verdict, session_of}
 use Rattle.node_meaning.proofs.EntryLaws.{entry_found, some_not_none}
 use Rattle.node_meaning.proofs.LockLaws.{locks_of-same, locks_of-remove}
 use Rattle.order_event.specs.declared.event.Event.{Event}
 use Rattle.node_core.specs.declared.node.Node.{Node}
-use Rattle.node_core.specs.Tabled.{Tabled, Owns, changes_row}
+use Rattle.node_core.specs.Tabled.{Tabled, made_by}
 use Rattle.node_core.specs.Stands.{Tables, Moves, AreWorked, plain_of}
-use Rattle.node_core.proofs.Tabling.{LiveAfter, New, Old, put_live, tabled-same, tabled-ended}
-
--- ---- a transaction that has no locks before and after
-no_both : (b : Bool) → b ≡ true → b ≡ false → ⊥
-no_both true t f = absurd cc
-no_both false t f = absurd cc
-
-module _ (rows : Rows) (live : FiniteMap nat_cmp Live) (table : RowTable) (tabled : Tabled rows live table) where
-  pub tabled-idle : (s : ℕ) (t u : Live) → get live s ≡ Some t → has_locks t.status ≡ false → has_locks u.status ≡ false
-      → Tabled rows (insert live s u) table
-  tabled-idle s t u there none still = record {
-    committed = tabled.committed;
-    owned = λ o v id is locked names. idle_owned o v id (put_live live s o v u is) locked names;
-    owner = λ o row id h. idle_owner o id (tabled.owner o row id h) _ refl;
-  }
-    where
-      idle_owned : (o : ℕ) (v : Live) (id : RowId) → LiveAfter live s o v u → has_locks v.status ≡ true → changes_row id v.ops ≡ true
-          → get table.changes id ≡ Some (o, get (ops_on v.ops rows) id)
-      idle_owned o v id (New is own) locked names =
-          absurd (no_both (has_locks v.status) locked (ap (λ (l : Live). has_locks l.status) own ∙ still))
-      idle_owned o v id (Old other is) locked names = tabled.owned o v id is locked names
-
-      idle_owner : (o : ℕ) (id : RowId) → Owns live o id → (b : Bool) → eq_by_cmp nat_cmp o s ≡ b → Owns (insert live s u) o id
-      idle_owner o id owns false other = record {
-        trx = owns.trx;
-        is_live = get-insert nat_cmp_total live s u o ∙ ap (λ b. cond b (Some u) (get live o)) other ∙ owns.is_live;
-        locks = owns.locks;
-        changes = owns.changes;
-      }
-      idle_owner o id owns true tie =
-          let own : owns.trx ≡ t = same_Some owns.trx t (sym owns.is_live ∙ ap (get live) (tied numbers o s tie) ∙ there) in
-          absurd (no_both (has_locks owns.trx.status) owns.locks (ap (λ (l : Live). has_locks l.status) own ∙ none))
+use Rattle.node_core.proofs.Tabling.{made-alike, put_at, ended_at, tabled-cleared, tabled-left}
 
 -- ---- what a verdict leaves of a transaction that lives on
 record Same (t u : Live) : Type 0 where
@@ -172,11 +138,10 @@ module _ (old : Node) (begin number : ℕ) (v : Verdict) where
               inbox = refl;
               certification = refl;
               tables = λ order tables. record {
-                locks = tables.locks ∙ sym (locks_of-same old.live old.units.units session t u is same.locks same.keys);
-                rows = two_ways (has_locks t.status)
-                    (λ locked. tabled-same (rows_at order old.at.committed) old.live old.rows old.rows tables.rows session t u is locked
-                    same.ops (same.locks ∙ locked) refl refl)
-                    (λ free. tabled-idle (rows_at order old.at.committed) old.live old.rows tables.rows session t u is free (same.locks ∙ free));
+                locks = subst (HoldAlike old.locks.locks) (sym (locks_of-same old.live old.units.units session t u is same.locks same.keys)) tables.locks;
+                rows = tabled-left (rows_at order old.at.committed) old.live old.rows old.rows tables.rows (insert old.live session u) session (Some u)
+                    (put_at old.live session u) (λ id. made-alike (rows_at order old.at.committed) id u t same.locks same.ops
+                    ∙ ap (made_by (rows_at order old.at.committed) id) (sym is)) refl refl;
                 units = tables.units;
                 room = tables.room;
               };
@@ -202,12 +167,14 @@ module _ (old : Node) (begin number : ℕ) (v : Verdict) where
 
             ended : (order : List Event) → Tables order old → Tables order new
             ended order tables = record {
-              locks = locks ∙ ap (λ l. remove l (Session session)) tables.locks
-                  ∙ sym (locks_of-remove old.live old.units.units session)
-                  ∙ ap (λ l. locks_of l old.units.units) (sym live) ∙ ap (λ u. locks_of new.live u.units) (sym units_is);
+              locks = alike_between _ _ _ _ locks
+                  (alike-remove old.locks.locks (locks_of old.live old.units.units) (Session session) tables.locks)
+                  (sym (locks_of-remove old.live old.units.units session)
+                  ∙ ap (λ l. locks_of l old.units.units) (sym live) ∙ ap (λ u. locks_of new.live u.units) (sym units_is));
               rows = subst (λ l. Tabled (rows_at order new.at.committed) l new.rows) (sym live)
                   (subst (λ (n : ℕ). Tabled (rows_at order n) (remove old.live session) new.rows) (sym (ap (λ (n : Node). n.at.committed) is_new))
-                  (tabled-ended (rows_at order old.at.committed) old.live old.rows new.rows tables.rows session committed changes));
+                  (tabled-cleared (rows_at order old.at.committed) old.live old.rows new.rows tables.rows (remove old.live session) session None
+                  (ended_at old.live session) (λ id. refl) committed changes));
               units = subst (λ u. AreWorked order u) (sym units_is) tables.units;
               room = omega (arith, tables.room, spare, ap (λ (n : Node). n.units.room) is_new);
             }

@@ -6,10 +6,8 @@ use Rattle.std.specs.Ordering.{nat_cmp}
 use Rattle.finite_map.specs.FiniteMap.{FiniteMap, get, insert, remove, contains_key, empty, len-empty}
 use Rattle.key_sets.specs.Parts.{parts_cmp}
 use Rattle.key_sets.specs.declared.kind.Kind.{Kind}
-use Rattle.row_model.specs.declared.row.RowId.{RowId}
 use Rattle.row_model.specs.declared.calls.Reply.{Reply}
 use Rattle.row_model.specs.declared.calls.Reply.TheVariants as reply
-use Rattle.row_model.specs.Rows.{Rows, ops_on}
 use Rattle.row_model.specs.declared.ops.Op.{Op}
 use Rattle.order_event.specs.declared.event.Event.{Event}
 use Rattle.order_event.specs.declared.event.Message.TheVariants as message
@@ -20,17 +18,18 @@ use Rattle.client_trx.specs.Live.{Live, has_locks, is_running, begun, with_statu
 use Rattle.client_trx.specs.declared.status.Status.{Status}
 use Rattle.client_trx.specs.declared.status.Status.TheVariants as status
 use Rattle.row_locks.specs.declared.holder.Holder.TheVariants.{Session}
-use Rattle.undo_rows.specs.RowTable.{RowTable, seen, without}
-use Rattle.node_meaning.specs.Node.{ModelNode, rows_at, seen_rows, locks_of, end_live}
-use Rattle.node_meaning.specs.Client.{begin_call, commit_call, send_commit, rollback_call, is_pending}
+use Rattle.row_locks.proofs.AlikeLaws.{alike_between, alike-remove}
+use Rattle.undo_rows.specs.RowTable.{RowTable, without}
+use Rattle.node_meaning.specs.Node.{ModelNode, rows_at, locks_of, end_live}
+use Rattle.node_meaning.specs.Client.{begin_call, commit_call, send_commit, rollback_call}
 use Rattle.node_meaning.specs.Facts.{Facts, ProgressInRange}
 use Rattle.node_meaning.proofs.LockLaws.{lock_keys, lock_of_live, locks_of-remove, locks_of-replace, locks_of-same}
 use Rattle.node_core.specs.declared.node.Node.{Node}
 use Rattle.node_core.specs.Client.{sends_commit}
-use Rattle.node_core.specs.Tabled.{Tabled}
+use Rattle.node_core.specs.Tabled.{Tabled, made_by}
 use Rattle.node_core.proofs.KeptFacts.{facts_ended, facts_begun, facts_sent}
 use Rattle.node_core.specs.Stands.{Stands, Tables, AreWorked, Unchanged, Moves, DoneOver, plain_of}
-use Rattle.node_core.proofs.Tabling.{tabled_sees, tabled_committed, tabled-ended, tabled-same, tabled-begun}
+use Rattle.node_core.proofs.Tabling.{same_tabled, made-alike, put_at, ended_at, tabled-cleared, tabled-left}
 
 -- ---- what a node stands for goes along where its parts do
 pub stands_by : (order : List Event) (old new : Node) → Stands order old → new.at.committed ≡ old.at.committed
@@ -45,14 +44,6 @@ stands_by order old new st committed certified taken inbox same tables facts = r
   facts = facts;
 }
 
-pub same_tabled : (rows : Rows) (live : FiniteMap nat_cmp Live) (table after : RowTable) → Tabled rows live table
-    → after.committed ≡ table.committed → after.changes ≡ table.changes → Tabled rows live after
-same_tabled rows live table after tabled committed changes = record {
-  committed = committed ∙ tabled.committed;
-  owned = λ s t id there locks names. ap (λ c. get c id) changes ∙ tabled.owned s t id there locks names;
-  owner = λ s row id h. tabled.owner s row id (ap (λ c. get c id) (sym changes) ∙ h);
-}
-
 -- more room changes nothing that it stands for
 pub unchanged_stands : (order : List Event) (old new : Node) → Unchanged old new → Stands order old → Stands order new
 unchanged_stands order old new same st =
@@ -63,7 +54,7 @@ unchanged_stands order old new same st =
     stands_by order old new st (ap (λ (n : ModelNode). n.at.committed) same.plain) (ap (λ (n : ModelNode). n.at.certified) same.plain)
     (ap (λ (n : ModelNode). n.at.taken) same.plain) same.inbox same.certification
     (record {
-      locks = same.locks ∙ st.tables.locks ∙ ap (λ (n : ModelNode). locks_of n.live n.units) (sym same.plain);
+      locks = alike_between _ _ _ _ same.locks st.tables.locks (ap (λ (n : ModelNode). locks_of n.live n.units) (sym same.plain));
       rows = subst (λ (n : ModelNode). Tabled (rows_at order n.at.committed) n.live new.rows) (sym same.plain)
           (same_tabled (rows_at order old.at.committed) old.live old.rows new.rows st.tables.rows same.committed same.changes);
       units = record {
@@ -92,19 +83,6 @@ running_status (status.Certified n) h = cc
 running_status status.KilledSent h = cc
 running_status (status.Replaying n) h = cc
 
-no_trx : (t : Live) → None ≡ Some t → ⊥
-no_trx t e = cc
-
--- a session whose transaction, if any, is Running sees the rows of the model
-pub sees : (rows : Rows) (live : FiniteMap nat_cmp Live) (table : RowTable) → Tabled rows live table → (session : ℕ) (id : RowId)
-    (o : Option Live) → get live session ≡ o → is_pending o ≡ false → seen table session id ≡ get (seen_rows rows o) id
-sees rows live table tabled session id None is free =
-    tabled_committed rows live table tabled session id (λ t there. absurd (no_trx t (sym is ∙ there)))
-sees rows live table tabled session id (Some t) is free =
-    let locks = running_locks t.status free in
-    tabled_sees rows live table tabled session t id is locks
-    ∙ ap (λ b. get (cond b (ops_on t.ops rows) rows) id) (sym locks)
-
 -- ---- a transaction ends
 pub moves_ended : (old new : Node) (s : ℕ) → plain_of new ≡ end_live (plain_of old) s → new.inbox ≡ old.inbox
     → new.certification ≡ old.certification → new.units ≡ old.units → new.locks.locks ≡ remove old.locks.locks (Session s)
@@ -118,11 +96,11 @@ moves_ended old new s plain inbox same units locks committed changes spare = rec
       let had = tables.room in
       let same_room : new.units.room ≡ old.units.room = ap (λ u. u.room) units in
       record {
-        locks =
-            locks ∙ ap (λ l. remove l (Session s)) tables.locks ∙ sym (locks_of-remove old.live old.units.units s)
-            ∙ ap (λ (n : ModelNode). locks_of n.live n.units) (sym plain);
+        locks = alike_between _ _ _ _ locks (alike-remove old.locks.locks (locks_of old.live old.units.units) (Session s) tables.locks)
+            (sym (locks_of-remove old.live old.units.units s) ∙ ap (λ (n : ModelNode). locks_of n.live n.units) (sym plain));
         rows = subst (λ (n : ModelNode). Tabled (rows_at order n.at.committed) n.live new.rows) (sym plain)
-            (tabled-ended (rows_at order old.at.committed) old.live old.rows new.rows tables.rows s committed changes);
+            (tabled-cleared (rows_at order old.at.committed) old.live old.rows new.rows tables.rows (remove old.live s) s None
+            (ended_at old.live s) (λ id. refl) committed changes);
         units = subst (AreWorked order) (sym units) tables.units;
         room = omega (arith, had, same_room, spare);
       };
@@ -179,13 +157,12 @@ began order old new s free plain inbox same units locks rows st =
           (ap (λ (n : ModelNode). n.at.certified) plain) (ap (λ (n : ModelNode). n.at.taken) plain)
           inbox same
           (record {
-            locks =
-                ap (λ l. l.locks) locks ∙ st.tables.locks
-                ∙ sym (locks_of-replace old.live old.units.units s t (ap lock_of_live free ∙ sym no_lock))
-                ∙ ap (λ (n : ModelNode). locks_of n.live n.units) (sym plain);
+            locks = alike_between _ _ _ _ (ap (λ l. l.locks) locks) st.tables.locks
+                (sym (locks_of-replace old.live old.units.units s t (ap lock_of_live free ∙ sym no_lock))
+                ∙ ap (λ (n : ModelNode). locks_of n.live n.units) (sym plain));
             rows = subst (λ (n : ModelNode). Tabled (rows_at order n.at.committed) n.live new.rows) (sym plain)
-                (tabled-begun (rows_at order old.at.committed) old.live old.rows new.rows st.tables.rows s t free refl
-                (ap (λ (r : RowTable). r.committed) rows) (ap (λ (r : RowTable). r.changes) rows));
+                (tabled-left (rows_at order old.at.committed) old.live old.rows new.rows st.tables.rows (insert old.live s t) s (Some t)
+                (put_at old.live s t) (λ id. ap (made_by (rows_at order old.at.committed) id) (sym free)) (ap (λ (r : RowTable). r.committed) rows) (ap (λ (r : RowTable). r.changes) rows));
             units = subst (AreWorked order) (sym units) st.tables.units;
             room = omega (arith, had, same_room, same_spare);
           })
@@ -212,13 +189,13 @@ commit_sent order old new s t is running some range plain inbox same units locks
           (ap (λ (n : ModelNode). n.at.certified) plain) (ap (λ (n : ModelNode). n.at.taken) plain)
           inbox same
           (record {
-            locks =
-                ap (λ l. l.locks) locks ∙ st.tables.locks
-                ∙ sym (locks_of-same old.live old.units.units s t u is (sym locked) refl)
-                ∙ ap (λ (n : ModelNode). locks_of n.live n.units) (sym plain);
+            locks = alike_between _ _ _ _ (ap (λ l. l.locks) locks) st.tables.locks
+                (sym (locks_of-same old.live old.units.units s t u is (sym locked) refl)
+                ∙ ap (λ (n : ModelNode). locks_of n.live n.units) (sym plain));
             rows = subst (λ (n : ModelNode). Tabled (rows_at order n.at.committed) n.live new.rows) (sym plain)
-                (tabled-same (rows_at order old.at.committed) old.live old.rows new.rows st.tables.rows s t u is locked refl refl
-                (ap (λ (r : RowTable). r.committed) rows) (ap (λ (r : RowTable). r.changes) rows));
+                (tabled-left (rows_at order old.at.committed) old.live old.rows new.rows st.tables.rows (insert old.live s u) s (Some u)
+                (put_at old.live s u) (λ id. made-alike (rows_at order old.at.committed) id u t (sym locked) refl
+                ∙ ap (made_by (rows_at order old.at.committed) id) (sym is)) (ap (λ (r : RowTable). r.committed) rows) (ap (λ (r : RowTable). r.changes) rows));
             units = subst (AreWorked order) (sym units) st.tables.units;
             room = omega (arith, had, same_room, same_spare);
           })

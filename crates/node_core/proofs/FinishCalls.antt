@@ -8,12 +8,11 @@ use Rattle.finite_map.specs.FiniteMap.{get, insert, get-insert}
 use Rattle.key_sets.specs.Keys.{Keys}
 use Rattle.apply_unit.specs.Task.{ModelTask}
 use Rattle.order_event.specs.declared.event.Event.{Event}
-use Rattle.order_event.specs.declared.step.Answer.{Answer}
 use Rattle.order_event.specs.declared.step.Answer.TheVariants as answer
+use Rattle.row_locks.specs.Alike.{HoldAlike}
 use Rattle.node_meaning.specs.declared.progress.Stage.{Stage}
 use Rattle.node_meaning.specs.declared.progress.Stage.TheVariants.{Started, Finished}
 use Rattle.node_meaning.specs.Node.{ModelNode, ApplyUnit, locks_of}
-use Rattle.node_meaning.specs.Facts.{Facts}
 use Rattle.node_meaning.specs.Steps.{finish_stage, finish_unit, finish_step}
 use Rattle.node_meaning.specs.Units.{unit_task}
 use Rattle.node_meaning.proofs.LockLaws.{locks_of-same_unit}
@@ -99,9 +98,10 @@ module _ (order : List Event) (node : Node) (done : ModelTask) (stands : Stands 
 
   tables : (u : ApplyUnit) → get node.units.units done.number ≡ Some u → Tables order after
   tables u there = record {
-    locks = stands.tables.locks
-        ∙ sym (ap (λ o. locks_of node.live (finished_unit node.units.units done.number o)) there
-        ∙ locks_of-same_unit node.live node.units.units done.number u (record { stage = Finished; keys = u.keys }) there refl);
+    locks = subst (HoldAlike node.locks.locks)
+        (sym (ap (λ o. locks_of node.live (finished_unit node.units.units done.number o)) there
+        ∙ locks_of-same_unit node.live node.units.units done.number u (record { stage = Finished; keys = u.keys }) there refl))
+        stands.tables.locks;
     rows = stands.tables.rows;
     units = finished_worked order node.units done stands.tables.units task u there;
     room = stands.tables.room;

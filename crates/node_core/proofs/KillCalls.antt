@@ -1,12 +1,12 @@
 -- What aborting a session's transaction leaves of the parts of a node.
-use Rattle.std.proofs.Common.{◌≡◌, ℕ, ◌+◌, ◌≤◌, ◌<◌, Bool, true, false, cond, List, length, take, fold, get_or, refl, sym, ap, subst, ◌∙◌, arith}
-use Rattle.std.specs.Prelude.{Option, Some, None}
+use Rattle.std.proofs.Common.{◌≡◌, ℕ, ◌+◌, ◌≤◌, ◌<◌, true, false, cond, List, length, take, fold, get_or, refl, sym, ap, subst, ◌∙◌, arith}
+use Rattle.std.specs.Prelude.{Some, None, ◌&&◌}
 use Rattle.std.proofs.lemmas.List.Sums.{fold_more}
-use Rattle.std.specs.Ordering.{nat_cmp, eq_by_cmp}
-use Rattle.std.specs.Cmp.{nat_cmp_total}
+use Rattle.std.specs.Ordering.{nat_cmp}
 use Rattle.finite_map.proofs.Edits.{numbers, insert-remove}
-use Rattle.finite_map.specs.FiniteMap.{FiniteMap, get, insert, remove, get-insert, get-remove}
+use Rattle.finite_map.specs.FiniteMap.{FiniteMap, get, insert, remove}
 use Rattle.row_model.specs.declared.calls.Reply.{Reply}
+use Rattle.row_model.specs.Rows.{ops_on}
 use Rattle.client_trx.specs.Live.{Live, has_locks, killed_in, killed_by}
 use Rattle.client_trx.specs.declared.status.Status.{Status}
 use Rattle.client_trx.specs.declared.status.Status.TheVariants as status
@@ -14,16 +14,18 @@ use Rattle.client_trx.specs.declared.status.Outcome.{Outcome}
 use Rattle.client_trx.specs.declared.status.Outcome.TheVariants.{Lives, Ends}
 use Rattle.row_locks.specs.declared.holder.Holder.TheVariants.{Session}
 use Rattle.row_locks.specs.Locks.{LockState}
+use Rattle.row_locks.specs.Alike.{HoldAlike}
+use Rattle.row_locks.proofs.AlikeLaws.{alike_between, alike-remove}
 use Rattle.undo_rows.specs.RowTable.{RowTable, without}
 use Rattle.node_parts.proofs.MapLaws.{same, removed_absent}
 use Rattle.node_meaning.specs.Node.{ModelNode, locks_of}
 use Rattle.node_meaning.specs.Steps.{told, killed_session, kill_session}
 use Rattle.node_meaning.proofs.LockLaws.{lock_keys, locks_of-remove, locks_of-unlocked}
 use Rattle.node_core.specs.declared.node.Node.{Node}
-use Rattle.node_core.specs.Tabled.{Tabled}
+use Rattle.node_core.specs.Tabled.{Tabled, changes_row}
 use Rattle.node_core.specs.Stands.{plain_of}
 use Rattle.node_core.specs.Starting.{Aborts}
-use Rattle.node_core.proofs.Tabling.{tabled-ended, tabled-unlocked}
+use Rattle.node_core.proofs.Tabling.{put_at, ended_at, tabled-cleared}
 
 -- ---- what becomes of the transaction
 outcome_of : (o p : Outcome) (t u : Live) → ◌≡◌ {A = Outcome × Live} (o, t) (p, u) → o ≡ p
@@ -58,7 +60,7 @@ kill_none old live number s none taken =
       units = refl;
       spare = omega arith;
       room = omega arith;
-      locks = λ older is. is ∙ ap (λ (m : FiniteMap nat_cmp Live). locks_of m older) (sym still);
+      locks = λ older is. subst (λ (m : FiniteMap nat_cmp Live). HoldAlike old.locks.locks (locks_of m older)) (sym still) is;
       rows = λ rows tabled. subst (λ (m : FiniteMap nat_cmp Live). Tabled rows m old.rows) (sym still) tabled;
     }
 
@@ -79,12 +81,13 @@ module _ (old : Node) (number s : ℕ) (t : Live) (locks : LockState) (rows : Ro
     spare = spare;
     room = room;
     locks = λ older same.
-        released ∙ ap (λ m. remove m (Session s)) same
-        ∙ sym (locks_of-unlocked old.live older s u (ap (λ b. lock_keys b u.keys) none))
-        ∙ ap (λ (m : FiniteMap nat_cmp Live). locks_of m older) (sym put);
+        alike_between _ _ _ _ released (alike-remove old.locks.locks (locks_of old.live older) (Session s) same)
+        (sym (locks_of-unlocked old.live older s u (ap (λ b. lock_keys b u.keys) none))
+        ∙ ap (λ (m : FiniteMap nat_cmp Live). locks_of m older) (sym put));
     rows = λ base tabled.
         subst (λ (m : FiniteMap nat_cmp Live). Tabled base m rows) (sym put)
-        (tabled-unlocked base old.live old.rows rows tabled s u none committed changes);
+        (tabled-cleared base old.live old.rows rows tabled (insert old.live s u) s (Some u) (put_at old.live s u)
+        (λ id. ap (λ b. cond (b && changes_row id u.ops) (Some (get (ops_on u.ops base) id)) None) none) committed changes);
   }
 
   -- it lives on without locks
@@ -112,11 +115,11 @@ module _ (old : Node) (number s : ℕ) (t : Live) (locks : LockState) (rows : Ro
         spare = spare;
         room = room;
         locks = λ older same.
-            released ∙ ap (λ m. remove m (Session s)) same ∙ sym (locks_of-remove old.live older s)
-            ∙ ap (λ (m : FiniteMap nat_cmp Live). locks_of m older) (sym gone);
+            alike_between _ _ _ _ released (alike-remove old.locks.locks (locks_of old.live older) (Session s) same)
+            (sym (locks_of-remove old.live older s) ∙ ap (λ (m : FiniteMap nat_cmp Live). locks_of m older) (sym gone));
         rows = λ base tabled.
             subst (λ (m : FiniteMap nat_cmp Live). Tabled base m rows) (sym gone)
-            (tabled-ended base old.live old.rows rows tabled s committed changes);
+            (tabled-cleared base old.live old.rows rows tabled (remove old.live s) s None (ended_at old.live s) (λ id. refl) committed changes);
       }
 
 -- ---- one after another

@@ -17,5 +17,4 @@ pub mod Statements
 pub mod TabledWrites
 pub mod Tabling
 pub mod TakeCalls
-pub mod UnitLocks
 pub mod UnitRows

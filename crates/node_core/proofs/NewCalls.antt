@@ -5,6 +5,7 @@ use Rattle.std.specs.Ordering.{nat_cmp}
 use Rattle.finite_map.specs.FiniteMap.{empty, get, get-empty}
 use Rattle.row_model.specs.Rows.{row_cmp}
 use Rattle.row_locks.specs.Holders.{holder_cmp}
+use Rattle.row_locks.specs.Locks.{Locks, keys_at}
 use Rattle.row_locks.specs.declared.holder.Holder.TheVariants.{Session, Unit as UnitHolder}
 use Rattle.order_event.specs.declared.event.Event.{Event}
 use Rattle.cert_meaning.specs.State.{no_events}
@@ -17,6 +18,7 @@ use Rattle.certification.specs.Certifies.{Certifies}
 use Rattle.node_parts.specs.Queue.{nothing_sent}
 use Rattle.node_parts.specs.Units.{no_units}
 use Rattle.node_core.specs.declared.node.Node.{Node}
+use Rattle.node_core.specs.Tabled.{made_by, shown_of}
 use Rattle.node_core.specs.Stands.{Stands, plain_of}
 
 nothing : {X : Type 0} (s : ℕ) (t : X) → get (empty {X = X} {R = nat_cmp}) s ≡ Some t → ⊥
@@ -47,12 +49,13 @@ module _ (order : List Event) (node : Node) (id : List ℕ) (member : ℕ) (at_i
         inbox = rw (certified_is, taken_is) inbox;
         certification = rw (committed_is, certified_is) certification;
         tables = record {
-          locks = locks ∙ sym no_locks ∙ ap (λ l. locks_of l empty) (sym live) ∙ ap (locks_of node.live) (sym (ap (λ (u : _). u.units) units));
+          locks = λ h. ap (λ (m : Locks). keys_at m h)
+              (locks ∙ sym no_locks ∙ ap (λ l. locks_of l empty) (sym live) ∙ ap (locks_of node.live) (sym (ap (λ (u : _). u.units) units)));
           rows = record {
             committed = committed ∙ sym (no_rows order) ∙ ap (rows_at order) (sym committed_is);
-            owned = λ session t id there locks changes. absurd (nothing session t (ap (λ l. get l session) (sym live) ∙ there));
-            owner = λ session row id there.
-                absurd (true≢false (ap is_some (sym there ∙ ap (λ c. get c id) changes ∙ get-empty row_cmp id)));
+            changed = λ session id.
+                ap (shown_of session) (ap (λ c. get c id) changes ∙ get-empty row_cmp id)
+                ∙ sym (ap (made_by (rows_at order node.at.committed) id) (ap (λ l. get l session) live ∙ get-empty nat_cmp session));
           };
           units = record { worked = λ number u there. absurd (nothing number u (ap (λ (t : _). get t.units number) (sym units) ∙ there)) };
           room = omega (arith, ap (λ (t : _). t.room) units);

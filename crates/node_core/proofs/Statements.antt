@@ -1,12 +1,10 @@
 -- What a statement meets, and what it leaves of a node.
 use Rattle.std.proofs.Common.{◌≡◌, ◌≤◌, ℕ, ◌+◌, Bool, true, false, cond, List, [], ◌∷◌, Result, Ok, Err, refl, sym, ap, subst, ◌∙◌, arith, true≢false}
 use Rattle.std.specs.Prelude.{Option, Some, None, IfOk, OnErr, IfSome, option_map, nat_lt, ◌||◌}
-use Rattle.std.specs.Ordering.{nat_cmp, eq_by_cmp}
-use Rattle.std.specs.Cmp.{nat_cmp_total}
-use Rattle.std.specs.FinMap.{nat_cmp-IsAntisymmetric}
+use Rattle.std.specs.Ordering.{nat_cmp}
 use Rattle.std.proofs.lemmas.Option.{same_Some}
-use Rattle.finite_map.proofs.Edits.{numbers, tied, insert-there, remove-absent, insert-remove}
-use Rattle.finite_map.specs.FiniteMap.{FiniteMap, get, empty, insert, remove, get-empty, get-insert, get-remove, same_map}
+use Rattle.finite_map.proofs.Edits.{numbers, insert-there, remove-absent, insert-remove}
+use Rattle.finite_map.specs.FiniteMap.{FiniteMap, get, empty, insert, remove, get-empty}
 use Rattle.key_sets.specs.declared.kind.Kind.{Kind}
 use Rattle.key_sets.specs.declared.parts.Parts.{Parts}
 use Rattle.key_sets.specs.Parts.{parts_cmp}
@@ -27,6 +25,8 @@ use Rattle.client_trx.specs.declared.status.Added.{Added}
 use Rattle.row_locks.specs.declared.holder.Holder.{Holder}
 use Rattle.row_locks.specs.declared.holder.Holder.TheVariants.{Session}
 use Rattle.row_locks.specs.Locks.{blocker, granted, granted_unless}
+use Rattle.row_locks.specs.Alike.{HoldAlike}
+use Rattle.row_locks.proofs.AlikeLaws.{alike_between, alike-with_lock, block_alike}
 use Rattle.undo_rows.specs.RowTable.{written, written_unless}
 use Rattle.row_model.specs.Rows.{id_of}
 use Rattle.row_model.specs.declared.calls.Call.{Call}
@@ -37,15 +37,14 @@ use Rattle.node_core.specs.declared.node.Node.{Node}
 use Rattle.node_core.specs.declared.refusal.Met.{Met}
 use Rattle.node_core.specs.Client.{hindrance, closed_by}
 use Rattle.node_core.specs.Statement.{met_at, told_and_put, changes_after}
-use Rattle.node_core.specs.Tabled.{Tabled}
-use Rattle.node_meaning.specs.Facts.{Facts}
+use Rattle.node_core.specs.Tabled.{Tabled, made_by}
 use Rattle.node_meaning.proofs.ClientFacts.{StatementFits}
 use Rattle.node_meaning.proofs.LockLaws.{locks_of-with_lock}
-use Rattle.node_core.proofs.Tabling.{tabled-same}
+use Rattle.node_core.proofs.Tabling.{sees, made-alike, put_at, tabled-left}
 use Rattle.node_core.proofs.TabledWrites.{tabled-written, free_row, key_changes}
 use Rattle.node_core.proofs.KeptFacts.{facts_extended, facts_told}
 use Rattle.node_core.specs.Stands.{Stands, Does, DoneOver, AreWorked, Unchanged, plain_of}
-use Rattle.node_core.proofs.ClientCalls.{sees, stands_by, unchanged_stands, running_locks}
+use Rattle.node_core.proofs.ClientCalls.{stands_by, unchanged_stands, running_locks}
 
 pub no_both : (b : Bool) → b ≡ true → b ≡ false → ⊥
 no_both true t f = absurd (true≢false f)
@@ -117,10 +116,10 @@ module _ (order : List Event) (node : Node) (session : ℕ) (id : RowId) (kind :
   held_same = holder-is order node.at.committed node.at.certified node.certification st.certification t.trx (one_key (row_parts id) kind)
 
   pub blocker_same : (met_at node session id kind t).blocker ≡ (met_by order (plain_of node) session t (asked_for id kind change)).blocker
-  blocker_same = ap (λ l. blocker l (Session session) (row_parts id) kind) st.tables.locks
+  blocker_same = block_alike node.locks.locks (locks_of node.live node.units.units) st.tables.locks (Session session) (row_parts id) kind
 
   pub row_same : (met_at node session id kind t).row ≡ (met_by order (plain_of node) session t (asked_for id kind change)).row
-  row_same = sees (rows_at order node.at.committed) node.live node.rows st.tables.rows session id (Some t) is free
+  row_same = sees (rows_at order node.at.committed) node.live node.rows st.tables.rows session id (Some t) is
 
   pub refusal_is : refusal (met_by order (plain_of node) session t (asked_for id kind change)) change
       ≡ first_line (hindrance (met_at node session id kind t).held (met_at node session id kind t).blocker
@@ -257,21 +256,28 @@ module _ (order : List Event) (c0 c1 c2 : Node) (session : ℕ) (id : RowId) (ki
 
     unblocked : blocker (locks_of c1.live c1.units.units) (Session session) (row_parts id) kind ≡ None
     unblocked =
-        ap (λ l. blocker l (Session session) (row_parts id) kind) (sym st1.tables.locks ∙ same.locks)
+        sym (block_alike c1.locks.locks (locks_of c1.live c1.units.units) st1.tables.locks (Session session) (row_parts id) kind)
+        ∙ ap (λ l. blocker l (Session session) (row_parts id) kind) same.locks
         ∙ ap (λ (m : Met). m.blocker) (sym met) ∙ unhindered m.held m.blocker m.row change none
 
-    locks_now : c3.locks.locks ≡ locks_of (insert c1.live session more) c1.units.units
+    locks_now : HoldAlike c3.locks.locks (locks_of (insert c1.live session more) c1.units.units)
     locks_now =
-        locks
+        let model = locks_of c1.live c1.units.units in
+        alike_between _ _ _ _
+        (locks
         ∙ ap (λ (n : Node). (granted n.locks.locks (Session session) (row_parts id) kind).1) grown
-        ∙ ap (λ l. (granted l (Session session) (row_parts id) kind).1) st1.tables.locks
-        ∙ ap (λ o. (granted_unless o (locks_of c1.live c1.units.units) (Session session) (row_parts id) kind).1) unblocked
-        ∙ sym (locks_of-with_lock c1.live c1.units.units session t more (row_parts id) kind live_is locked locked refl)
+        ∙ ap (λ o. (granted_unless o c1.locks.locks (Session session) (row_parts id) kind).1)
+        (block_alike c1.locks.locks model st1.tables.locks (Session session) (row_parts id) kind ∙ unblocked))
+        (alike-with_lock c1.locks.locks model (Session session) (row_parts id) kind st1.tables.locks)
+        (sym (locks_of-with_lock c1.live c1.units.units session t more (row_parts id) kind live_is locked locked refl))
 
     rows_now : (o : Option Op) → change ≡ o → Tabled (rows_at order c1.at.committed) (insert c1.live session more) c3.rows
     rows_now None no_change =
-        tabled-same (rows_at order c1.at.committed) c1.live c1.rows c3.rows st1.tables.rows session t more live_is locked
-        (ap (with_op t.ops) no_change) locked (committed ∙ ap (λ (n : Node). n.rows.committed) grown)
+        tabled-left (rows_at order c1.at.committed) c1.live c1.rows c3.rows st1.tables.rows (insert c1.live session more) session (Some more)
+        (put_at c1.live session more)
+        (λ row. made-alike (rows_at order c1.at.committed) row more t refl (ap (with_op t.ops) no_change)
+        ∙ ap (made_by (rows_at order c1.at.committed) row) (sym live_is))
+        (committed ∙ ap (λ (n : Node). n.rows.committed) grown)
         (changes ∙ ap (changes_after c2.rows session) no_change ∙ ap (λ (n : Node). n.rows.changes) grown)
     rows_now (Some o) some_change =
         let key = key_changes (row_parts id) kind o (subst (λ c. IfSome c (λ o. IsKeyOf (row_parts id) kind o)) some_change fits.key) in
@@ -303,7 +309,7 @@ module _ (order : List Event) (c0 c1 c2 : Node) (session : ℕ) (id : RowId) (ki
               (ap (λ (n : Node). n.inbox) others ∙ ap (λ (n : Node). n.inbox) grown)
               (ap (λ (n : Node). n.certification) others ∙ ap (λ (n : Node). n.certification) grown)
               (record {
-                locks = locks_now ∙ ap (λ (n : ModelNode). locks_of n.live n.units) (sym plain_is);
+                locks = subst (λ (n : ModelNode). HoldAlike c3.locks.locks (locks_of n.live n.units)) (sym plain_is) locks_now;
                 rows = subst (λ (n : ModelNode). Tabled (rows_at order n.at.committed) n.live c3.rows) (sym plain_is)
                     (rows_now change refl);
                 units = subst (AreWorked order)

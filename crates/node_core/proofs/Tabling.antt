@@ -1,297 +1,207 @@
--- What steps of transactions leave of a table of rows.
-use Rattle.std.proofs.Common.{◌≡◌, ℕ, Bool, true, false, List, [], refl, sym, ap, subst, ◌∙◌}
-use Rattle.std.specs.Prelude.{Option, Some, None, cond, not, ◌==◌}
-use Rattle.std.proofs.lemmas.Bool.{eqb-true, eq-eqb, false_from_ne_true}
+-- What an edit at one session leaves of a table of rows.
+use Rattle.std.proofs.Common.{◌≡◌, ℕ, Bool, true, false, List, refl, sym, ap, subst, ◌∙◌}
+use Rattle.std.specs.Prelude.{Option, Some, None, cond, not, ◌==◌, ◌&&◌}
+use Rattle.std.specs.Option.{unwrap_or}
 use Rattle.std.specs.Ordering.{nat_cmp, eq_by_cmp}
 use Rattle.std.specs.Cmp.{nat_cmp_total}
-use Rattle.std.proofs.lemmas.Option.{same_Some}
+use Rattle.std.proofs.lemmas.Bool.{eqb-true, eq-eqb, false_from_ne_true}
 use Rattle.finite_map.proofs.Edits.{numbers, tied, itself, untied}
 use Rattle.finite_map.specs.FiniteMap.{FiniteMap, get, insert, remove, get-insert, get-remove, same_map}
-use Rattle.std.specs.List.{list_any}
 use Rattle.row_model.specs.declared.row.RowId.{RowId}
-use Rattle.row_model.specs.declared.ops.Op.{Op}
 use Rattle.row_model.specs.Rows.{Rows, ops_on}
 use Rattle.row_model.specs.RowOrder.{row_total, row_exact}
-use Rattle.apply_unit.specs.RowChanges.{names_row, row_after_ops}
+use Rattle.apply_unit.specs.RowChanges.{row_after_ops}
 use Rattle.apply_unit.proofs.RowLemmas.{get-unnamed, get-ops_on}
 use Rattle.client_trx.specs.Live.{Live, has_locks}
 use Rattle.undo_rows.specs.RowTable.{RowTable, Change, Changes, seen, seen_of, without, is_owned_by}
 use Rattle.undo_rows.proofs.RowTableLemmas.{get-without}
-use Rattle.node_core.specs.Tabled.{Tabled, Owns, changes_row}
+use Rattle.node_meaning.specs.Node.{seen_rows}
+use Rattle.node_core.specs.Tabled.{Tabled, changes_row, made_by, shown_of}
 
-no_both : (b : Bool) → b ≡ true → b ≡ false → ⊥
-no_both true t f = absurd cc
-no_both false t f = absurd cc
-
--- an owner sees its own change
-sees_own : (owner : ℕ) (row committed : Option (List ℕ)) → seen_of owner (Some (owner, row)) committed ≡ row
-sees_own owner row committed = ap (λ b. cond b row committed) (eq-eqb owner owner refl)
-
--- and else the committed row
-sees_committed : (owner : ℕ) (change : Option Change) (committed : Option (List ℕ)) → is_owned_by owner change ≡ false
-    → seen_of owner change committed ≡ committed
-sees_committed owner None committed none = refl
-sees_committed owner (Some change) committed none = ap (λ b. cond b change.1 committed) none
-
-owner_of : (session : ℕ) (change : Option Change) (P : Type 0) → ((row : Option (List ℕ)) → change ≡ Some (session, row) → P)
-    → is_owned_by session change ≡ true → P
-owner_of session None P gives owned = absurd cc
-owner_of session (Some change) P gives owned =
-    gives change.1 (ap (λ o. Some (o, change.1)) (eqb-true change.0 session owned))
-
--- a session owns no row that its transaction does not change, or that it changes without locks
-pub not_owned : (rows : Rows) (live : FiniteMap nat_cmp Live) (table : RowTable) → Tabled rows live table → (session : ℕ) (id : RowId)
-    → (Owns live session id → ⊥) → is_owned_by session (get table.changes id) ≡ false
-not_owned rows live table tabled session id none =
-    false_from_ne_true (is_owned_by session (get table.changes id))
-    (owner_of session (get table.changes id) ⊥ (λ row is. none (tabled.owner session row id is)))
-
-sees_by : (b : Bool) (rows : Rows) (table : RowTable) (session : ℕ) (t : Live) (id : RowId) → changes_row id t.ops ≡ b
-    → get table.committed id ≡ get rows id
-    → (changes_row id t.ops ≡ true → get table.changes id ≡ Some (session, get (ops_on t.ops rows) id))
-    → (changes_row id t.ops ≡ false → is_owned_by session (get table.changes id) ≡ false)
-    → seen table session id ≡ get (ops_on t.ops rows) id
-sees_by true rows table session t id is committed owned none =
-    ap (λ c. seen_of session c (get table.committed id)) (owned is) ∙ sees_own session (get (ops_on t.ops rows) id) (get table.committed id)
-sees_by false rows table session t id is committed owned none =
-    sees_committed session (get table.changes id) (get table.committed id) (none is)
-    ∙ committed ∙ sym (get-unnamed t.ops rows id is)
-
--- a session whose transaction has locks sees its changes on the committed rows
-pub tabled_sees : (rows : Rows) (live : FiniteMap nat_cmp Live) (table : RowTable) → Tabled rows live table → (session : ℕ) (t : Live)
-    (id : RowId) → get live session ≡ Some t → has_locks t.status ≡ true → seen table session id ≡ get (ops_on t.ops rows) id
-tabled_sees rows live table tabled session t id there locks =
-    sees_by _ rows table session t id refl (ap (λ r. get r id) tabled.committed)
-    (tabled.owned session t id there locks)
-    (λ none. not_owned rows live table tabled session id
-    (λ owns. no_both (changes_row id t.ops)
-    (subst (λ (u : Live). changes_row id u.ops ≡ true) (same_Some owns.trx t (sym owns.is_live ∙ there)) owns.changes) none))
-
--- a session without such a transaction sees the committed rows
-pub tabled_committed : (rows : Rows) (live : FiniteMap nat_cmp Live) (table : RowTable) → Tabled rows live table → (session : ℕ)
-    (id : RowId) → ((t : Live) → get live session ≡ Some t → has_locks t.status ≡ false) → seen table session id ≡ get rows id
-tabled_committed rows live table tabled session id none =
-    sees_committed session (get table.changes id) (get table.committed id)
-    (not_owned rows live table tabled session id (λ owns. no_both (has_locks owns.trx.status) owns.locks (none owns.trx owns.is_live)))
-    ∙ ap (λ r. get r id) tabled.committed
-
--- ---- look-ups after an edit of the live transactions
-get_left : (live : FiniteMap nat_cmp Live) (s o : ℕ) (t : Live) (b : Bool) → eq_by_cmp nat_cmp o s ≡ b
-    → cond b None (get live o) ≡ Some t → (get live o ≡ Some t) × (eq_by_cmp nat_cmp o s ≡ false)
-get_left live s o t true e h = absurd cc
-get_left live s o t false e h = (h, e)
-
-left_live : (live : FiniteMap nat_cmp Live) (s o : ℕ) (t : Live) → get (remove live s) o ≡ Some t
-    → (get live o ≡ Some t) × (eq_by_cmp nat_cmp o s ≡ false)
-left_live live s o t h = get_left live s o t _ refl (sym (get-remove nat_cmp_total live s o) ∙ h)
-
-get_kept : (live : FiniteMap nat_cmp Live) (s o : ℕ) (t : Live) → get live o ≡ Some t → eq_by_cmp nat_cmp o s ≡ false
-    → get (remove live s) o ≡ Some t
-get_kept live s o t there other =
-    get-remove nat_cmp_total live s o ∙ ap (λ b. cond b None (get live o)) other ∙ there
-
-get_other : (live : FiniteMap nat_cmp Live) (s o : ℕ) (t u : Live) → get live o ≡ Some t → eq_by_cmp nat_cmp o s ≡ false
-    → get (insert live s u) o ≡ Some t
-get_other live s o t u there other =
-    get-insert nat_cmp_total live s u o ∙ ap (λ b. cond b (Some u) (get live o)) other ∙ there
-
-get_new : (live : FiniteMap nat_cmp Live) (s : ℕ) (u : Live) → get (insert live s u) s ≡ Some u
-get_new live s u = get-insert nat_cmp_total live s u s ∙ ap (λ b. cond b (Some u) (get live s)) (itself numbers s)
-
--- a live transaction after one is put at a session: that one, or one of another session
-pub data LiveAfter (live : FiniteMap nat_cmp Live) (s o : ℕ) (t u : Live) : Type 0 where
-  New : o ≡ s → t ≡ u → LiveAfter live s o t u
-  Old : eq_by_cmp nat_cmp o s ≡ false → get live o ≡ Some t → LiveAfter live s o t u
-
-put_cases : (live : FiniteMap nat_cmp Live) (s o : ℕ) (t u : Live) (b : Bool) → eq_by_cmp nat_cmp o s ≡ b
-    → cond b (Some u) (get live o) ≡ Some t → LiveAfter live s o t u
-put_cases live s o t u true e h = New (tied numbers o s e) (sym (same_Some u t h))
-put_cases live s o t u false e h = Old e h
-
-pub put_live : (live : FiniteMap nat_cmp Live) (s o : ℕ) (t u : Live) → get (insert live s u) o ≡ Some t → LiveAfter live s o t u
-put_live live s o t u h = put_cases live s o t u _ refl (sym (get-insert nat_cmp_total live s u o) ∙ h)
-
-other_number : (o s : ℕ) → eq_by_cmp nat_cmp o s ≡ false → (o == s) ≡ false
-other_number o s differs = false_from_ne_true (o == s) (λ same. untied numbers o s differs (eqb-true o s same))
-
--- ---- what becomes of owners
-owns_left : (live : FiniteMap nat_cmp Live) (s o : ℕ) (id : RowId) → eq_by_cmp nat_cmp o s ≡ false → Owns live o id
-    → Owns (remove live s) o id
-owns_left live s o id other owns = record {
-  trx = owns.trx;
-  is_live = get_kept live s o owns.trx owns.is_live other;
-  locks = owns.locks;
-  changes = owns.changes;
-}
-
-owns_other : (live : FiniteMap nat_cmp Live) (s o : ℕ) (u : Live) (id : RowId) → eq_by_cmp nat_cmp o s ≡ false → Owns live o id
-    → Owns (insert live s u) o id
-owns_other live s o u id other owns = record {
-  trx = owns.trx;
-  is_live = get_other live s o owns.trx u owns.is_live other;
-  locks = owns.locks;
-  changes = owns.changes;
-}
-
--- the changes of one owner are gone, and those of others are there
-without_own : (changes : Changes) (s o : ℕ) (row : Option (List ℕ)) (id : RowId) (change : Option Change)
-    → get changes id ≡ change → cond (not (is_owned_by s change)) change None ≡ Some (o, row)
-    → (get changes id ≡ Some (o, row)) × (eq_by_cmp nat_cmp o s ≡ false)
-without_own changes s o row id None is h = absurd cc
-without_own changes s o row id (Some change) is h = without_cases changes s o row id change (change.0 == s) is refl h
+-- ---- what a transaction made of a row
+pub made-seen : (rows : Rows) (id : RowId) (o : Option Live) → unwrap_or (made_by rows id o) (get rows id) ≡ get (seen_rows rows o) id
+made-seen rows id None = refl
+made-seen rows id (Some t) = by (has_locks t.status) (changes_row id t.ops) refl
   where
-    without_cases : (changes : Changes) (s o : ℕ) (row : Option (List ℕ)) (id : RowId) (change : Change) (b : Bool)
-        → get changes id ≡ Some change → (change.0 == s) ≡ b → cond (not b) (Some change) None ≡ Some (o, row)
-        → (get changes id ≡ Some (o, row)) × (eq_by_cmp nat_cmp o s ≡ false)
-    without_cases changes s o row id change true is e h = absurd cc
-    without_cases changes s o row id change false is e h =
-        let same = same_Some change (o, row) h in (
-          is ∙ h,
-          false_from_ne_true (eq_by_cmp nat_cmp o s)
-              (λ tie. no_both (change.0 == s) (ap (λ (c : Change). c.0 == s) same ∙ ap (λ n. n == s) (tied numbers o s tie) ∙ eq-eqb s s refl) e),
-        )
+    by : (b c : Bool) → changes_row id t.ops ≡ c
+        → unwrap_or (cond (b && c) (Some (get (ops_on t.ops rows) id)) None) (get rows id) ≡ get (cond b (ops_on t.ops rows) rows) id
+    by true true is = refl
+    by true false is = sym (get-unnamed t.ops rows id is)
+    by false c is = refl
 
-without_other : (changes : Changes) (s o : ℕ) (row : Option (List ℕ)) (id : RowId) → eq_by_cmp nat_cmp o s ≡ false
-    → get changes id ≡ Some (o, row) → get (without changes s) id ≡ Some (o, row)
-without_other changes s o row id other there =
-    get-without changes s id
-    ∙ ap (λ c. cond (not (is_owned_by s c)) c None) there
-    ∙ ap (λ b. cond (not b) (Some (o, row)) None) (other_number o s other)
+-- who made something of a row has locks and changes it
+pub made-from : (rows : Rows) (id : RowId) (o : Option Live) (row : Option (List ℕ)) → made_by rows id o ≡ Some row
+    → (t : Live) × (o ≡ Some t) × (has_locks t.status ≡ true) × (changes_row id t.ops ≡ true)
+made-from rows id None row is = cc
+made-from rows id (Some t) row is = by (has_locks t.status) (changes_row id t.ops) refl refl is
+  where
+    by : (b c : Bool) → has_locks t.status ≡ b → changes_row id t.ops ≡ c
+        → cond (b && c) (Some (get (ops_on t.ops rows) id)) None ≡ Some row
+        → (u : Live) × (Some t ≡ Some u) × (has_locks u.status ≡ true) × (changes_row id u.ops ≡ true)
+    by true true locks changes is = (t, refl, locks, changes)
+    by true false locks changes is = cc
+    by false c locks changes is = cc
 
-left_owner : (changes : Changes) (s o : ℕ) (row : Option (List ℕ)) (id : RowId) → get (without changes s) id ≡ Some (o, row)
-    → (get changes id ≡ Some (o, row)) × (eq_by_cmp nat_cmp o s ≡ false)
-left_owner changes s o row id h = without_own changes s o row id (get changes id) refl (sym (get-without changes s id) ∙ h)
+-- two that have locks alike and the same changes make the same
+pub made-alike : (rows : Rows) (id : RowId) (u t : Live) → has_locks u.status ≡ has_locks t.status → u.ops ≡ t.ops
+    → made_by rows id (Some u) ≡ made_by rows id (Some t)
+made-alike rows id u t locks ops = λ i. cond (locks i && changes_row id (ops i)) (Some (get (ops_on (ops i) rows) id)) None
 
--- ---- the steps
+-- it makes the same of other rows, where the row that it changes is the same
+pub made-same : (rows others : Rows) (id : RowId) (o : Option Live)
+    → ((row : Option (List ℕ)) → made_by rows id o ≡ Some row → get others id ≡ get rows id) → made_by others id o ≡ made_by rows id o
+made-same rows others id None same = refl
+made-same rows others id (Some t) same = by (has_locks t.status && changes_row id t.ops) refl
+  where
+    by : (b : Bool) → (has_locks t.status && changes_row id t.ops) ≡ b
+        → cond b (Some (get (ops_on t.ops others) id)) None ≡ cond b (Some (get (ops_on t.ops rows) id)) None
+    by true is =
+        ap Some (get-ops_on t.ops others id
+        ∙ ap (row_after_ops id t.ops) (same (get (ops_on t.ops rows) id) (ap (λ b. cond b (Some (get (ops_on t.ops rows) id)) None) is))
+        ∙ sym (get-ops_on t.ops rows id))
+    by false is = refl
+
+-- ---- what a table shows of a change
+shown-seen : (s : ℕ) (c : Option Change) (row : Option (List ℕ)) → seen_of s c row ≡ unwrap_or (shown_of s c) row
+shown-seen s None row = refl
+shown-seen s (Some c) row = by (c.0 == s)
+  where
+    by : (b : Bool) → cond b c.1 row ≡ unwrap_or (cond b (Some c.1) None) row
+    by true = refl
+    by false = refl
+
+-- each session sees what the model's does
+pub sees : (rows : Rows) (live : FiniteMap nat_cmp Live) (table : RowTable) → Tabled rows live table → (s : ℕ) (id : RowId)
+    (o : Option Live) → get live s ≡ o → seen table s id ≡ get (seen_rows rows o) id
+sees rows live table tabled s id o is =
+    shown-seen s (get table.changes id) (get table.committed id)
+    ∙ (λ i. unwrap_or ((tabled.changed s id ∙ ap (made_by rows id) is) i) (get (tabled.committed i) id))
+    ∙ made-seen rows id o
+
+pub own_shown : (s : ℕ) (row : Option (List ℕ)) → shown_of s (Some (s, row)) ≡ Some row
+own_shown s row = ap (λ b. cond b (Some row) None) (eq-eqb s s refl)
+
+-- a number is not both
+pub not_other : (n o s : ℕ) → eq_by_cmp nat_cmp o s ≡ false → (n == s) ≡ true → (n == o) ≡ false
+not_other n o s other is = false_from_ne_true (n == o) (λ same. untied numbers o s other (sym (eqb-true n o same) ∙ eqb-true n s is))
+
+-- a change is one session's alone
+pub other_shown : (s o : ℕ) (c : Option Change) (row : Option (List ℕ)) → eq_by_cmp nat_cmp o s ≡ false → shown_of o c ≡ Some row
+    → shown_of s c ≡ None
+other_shown s o None row other is = refl
+other_shown s o (Some c) row other is = by (c.0 == s) refl
+  where
+    by : (b : Bool) → (c.0 == s) ≡ b → cond b (Some c.1) None ≡ None
+    by true own = let none : shown_of o (Some c) ≡ None = ap (λ b. cond b (Some c.1) None) (not_other c.0 o s other own) in cc
+    by false own = refl
+
+-- without the changes of one session
+module _ (changes : Changes) (s : ℕ) where
+  own_gone : (id : RowId) → shown_of s (get (without changes s) id) ≡ None
+  own_gone id = ap (shown_of s) (get-without changes s id) ∙ by (get changes id)
+    where
+      gone : (c : Change) (b : Bool) → (c.0 == s) ≡ b → shown_of s (cond (not b) (Some c) None) ≡ None
+      gone c true is = refl
+      gone c false is = ap (λ b. cond b (Some c.1) None) is
+
+      by : (c : Option Change) → shown_of s (cond (not (is_owned_by s c)) c None) ≡ None
+      by None = refl
+      by (Some c) = gone c (c.0 == s) refl
+
+  others_stay : (o : ℕ) (id : RowId) → eq_by_cmp nat_cmp o s ≡ false
+      → shown_of o (get (without changes s) id) ≡ shown_of o (get changes id)
+  others_stay o id other = ap (shown_of o) (get-without changes s id) ∙ by (get changes id)
+    where
+      left : (c : Change) (b : Bool) → (c.0 == s) ≡ b → shown_of o (cond (not b) (Some c) None) ≡ shown_of o (Some c)
+      left c true is = sym (ap (λ b. cond b (Some c.1) None) (not_other c.0 o s other is))
+      left c false is = refl
+
+      by : (c : Option Change) → shown_of o (cond (not (is_owned_by s c)) c None) ≡ shown_of o c
+      by None = refl
+      by (Some c) = left c (c.0 == s) refl
+
+-- ---- the live transactions after an edit at a session
+pub record LiveAt (live new : FiniteMap nat_cmp Live) (s : ℕ) (o : Option Live) : Type 0 where
+  pub own : get new s ≡ o
+  pub others : (q : ℕ) → eq_by_cmp nat_cmp q s ≡ false → get new q ≡ get live q
+
+pub put_at : (live : FiniteMap nat_cmp Live) (s : ℕ) (u : Live) → LiveAt live (insert live s u) s (Some u)
+put_at live s u = record {
+  own = get-insert nat_cmp_total live s u s ∙ ap (λ b. cond b (Some u) (get live s)) (itself numbers s);
+  others = λ q other. get-insert nat_cmp_total live s u q ∙ ap (λ b. cond b (Some u) (get live q)) other;
+}
+
+pub ended_at : (live : FiniteMap nat_cmp Live) (s : ℕ) → LiveAt live (remove live s) s None
+ended_at live s = record {
+  own = get-remove nat_cmp_total live s s ∙ ap (λ b. cond b None (get live s)) (itself numbers s);
+  others = λ q other. get-remove nat_cmp_total live s q ∙ ap (λ b. cond b None (get live q)) other;
+}
+
 module _ (rows : Rows) (live : FiniteMap nat_cmp Live) (table after : RowTable) (tabled : Tabled rows live table) where
-  -- a transaction ends, and its changes go
-  pub tabled-ended : (s : ℕ) → after.committed ≡ table.committed → after.changes ≡ without table.changes s
-      → Tabled rows (remove live s) after
-  tabled-ended s same gone = record {
-    committed = same ∙ tabled.committed;
-    owned = λ o t id there locks changes.
-        let left = left_live live s o t there in
-        ap (λ c. get c id) gone
-        ∙ without_other table.changes s o (get (ops_on t.ops rows) id) id left.1 (tabled.owned o t id left.0 locks changes);
-    owner = λ o row id h.
-        let left = left_owner table.changes s o row id (ap (λ c. get c id) (sym gone) ∙ h) in
-        owns_left live s o id left.1 (tabled.owner o row id left.0);
-  }
-
-  -- a transaction loses its locks, and its changes go
-  pub tabled-unlocked : (s : ℕ) (u : Live) → has_locks u.status ≡ false → after.committed ≡ table.committed
-      → after.changes ≡ without table.changes s → Tabled rows (insert live s u) after
-  tabled-unlocked s u none same gone = record {
-    committed = same ∙ tabled.committed;
-    owned = λ o t id there locks changes. unlocked_owned o t id (put_live live s o t u there) locks changes;
-    owner = λ o row id h.
-        let left = left_owner table.changes s o row id (ap (λ c. get c id) (sym gone) ∙ h) in
-        owns_other live s o u id left.1 (tabled.owner o row id left.0);
+  -- after an edit at a session the table shows what the session made, and of the others what it showed
+  pub tabled-edited : (others : Rows) (new : FiniteMap nat_cmp Live) (s : ℕ) (o : Option Live) → LiveAt live new s o → after.committed ≡ others
+      → ((id : RowId) → shown_of s (get after.changes id) ≡ made_by others id o)
+      → ((q : ℕ) (id : RowId) → eq_by_cmp nat_cmp q s ≡ false → shown_of q (get after.changes id) ≡ shown_of q (get table.changes id))
+      → ((q : ℕ) (id : RowId) → eq_by_cmp nat_cmp q s ≡ false → made_by others id (get live q) ≡ made_by rows id (get live q))
+      → Tabled others new after
+  tabled-edited others new s o at committed own shown made = record {
+    committed = committed;
+    changed = λ q id. by q id (eq_by_cmp nat_cmp q s) refl;
   }
     where
-      unlocked_owned : (o : ℕ) (t : Live) (id : RowId) → LiveAfter live s o t u → has_locks t.status ≡ true
-          → changes_row id t.ops ≡ true → get after.changes id ≡ Some (o, get (ops_on t.ops rows) id)
-      unlocked_owned o t id (New is same) locks changes =
-          absurd (no_both (has_locks t.status) locks (ap (λ (l : Live). has_locks l.status) same ∙ none))
-      unlocked_owned o t id (Old other there) locks changes =
-          ap (λ c. get c id) gone
-          ∙ without_other table.changes s o (get (ops_on t.ops rows) id) id other (tabled.owned o t id there locks changes)
+      by : (q : ℕ) (id : RowId) (b : Bool) → eq_by_cmp nat_cmp q s ≡ b → shown_of q (get after.changes id) ≡ made_by others id (get new q)
+      by q id true tie =
+          subst (λ r. shown_of r (get after.changes id) ≡ made_by others id (get new r)) (sym (tied numbers q s tie))
+          (own id ∙ ap (made_by others id) (sym at.own))
+      by q id false tie =
+          shown q id tie ∙ tabled.changed q id ∙ sym (made q id tie) ∙ ap (made_by others id) (sym (at.others q tie))
 
-  -- a transaction changes its status and keeps its locks and changes
-  pub tabled-same : (s : ℕ) (t u : Live) → get live s ≡ Some t → has_locks t.status ≡ true → u.ops ≡ t.ops → has_locks u.status ≡ true
-      → after.committed ≡ table.committed → after.changes ≡ table.changes → Tabled rows (insert live s u) after
-  tabled-same s t u there locks same has committed changes = record {
-    committed = committed ∙ tabled.committed;
-    owned = λ o v id is locked names. same_owned o v id (put_live live s o v u is) locked names;
-    owner = λ o row id h. same_owner o id (tabled.owner o row id (ap (λ c. get c id) (sym changes) ∙ h)) _ refl;
-  }
-    where
-      same_owned : (o : ℕ) (v : Live) (id : RowId) → LiveAfter live s o v u → has_locks v.status ≡ true
-          → changes_row id v.ops ≡ true → get after.changes id ≡ Some (o, get (ops_on v.ops rows) id)
-      same_owned o v id (New is own) locked names =
-          let ops : v.ops ≡ t.ops = ap (λ (l : Live). l.ops) own ∙ same in
-          ap (λ c. get c id) changes
-          ∙ tabled.owned s t id there locks (ap (changes_row id) (sym ops) ∙ names)
-          ∙ ap (λ k. Some (k, get (ops_on t.ops rows) id)) (sym is)
-          ∙ ap (λ ops. Some (o, get (ops_on ops rows) id)) (sym ops)
-      same_owned o v id (Old other is) locked names =
-          ap (λ c. get c id) changes ∙ tabled.owned o v id is locked names
+  -- the session's changes go
+  pub tabled-cleared : (new : FiniteMap nat_cmp Live) (s : ℕ) (o : Option Live) → LiveAt live new s o
+      → ((id : RowId) → made_by rows id o ≡ None) → after.committed ≡ table.committed → after.changes ≡ without table.changes s
+      → Tabled rows new after
+  tabled-cleared new s o at none committed gone =
+      tabled-edited rows new s o at (committed ∙ tabled.committed)
+      (λ id. ap (λ m. shown_of s (get m id)) gone ∙ own_gone table.changes s id ∙ sym (none id))
+      (λ q id other. ap (λ m. shown_of q (get m id)) gone ∙ others_stay table.changes s q id other)
+      (λ q id other. refl)
 
-      same_owner : (o : ℕ) (id : RowId) → Owns live o id → (b : Bool) → eq_by_cmp nat_cmp o s ≡ b → Owns (insert live s u) o id
-      same_owner o id owns false other = owns_other live s o u id other owns
-      same_owner o id owns true tie =
-          let is : o ≡ s = tied numbers o s tie in
-          let own : owns.trx ≡ t = same_Some owns.trx t (sym owns.is_live ∙ ap (get live) is ∙ there) in
-          subst (λ k. Owns (insert live s u) k id) (sym is) (record {
-            trx = u;
-            is_live = get_new live s u;
-            locks = has;
-            changes = ap (changes_row id) (same ∙ ap (λ (l : Live). l.ops) (sym own)) ∙ owns.changes;
-          })
+  -- they stay, and its transaction has made the same
+  pub tabled-left : (new : FiniteMap nat_cmp Live) (s : ℕ) (o : Option Live) → LiveAt live new s o
+      → ((id : RowId) → made_by rows id o ≡ made_by rows id (get live s)) → after.committed ≡ table.committed
+      → after.changes ≡ table.changes → Tabled rows new after
+  tabled-left new s o at same committed changes =
+      tabled-edited rows new s o at (committed ∙ tabled.committed)
+      (λ id. ap (λ m. shown_of s (get m id)) changes ∙ tabled.changed s id ∙ sym (same id))
+      (λ q id other. ap (λ m. shown_of q (get m id)) changes)
+      (λ q id other. refl)
 
-  -- a transaction begins
-  pub tabled-begun : (s : ℕ) (u : Live) → get live s ≡ None → u.ops ≡ [] → after.committed ≡ table.committed
-      → after.changes ≡ table.changes → Tabled rows (insert live s u) after
-  tabled-begun s u free none committed changes = record {
-    committed = committed ∙ tabled.committed;
-    owned = λ o v id is locked names. begun_owned o v id (put_live live s o v u is) locked names;
-    owner = λ o row id h. begun_owner o id (tabled.owner o row id (ap (λ c. get c id) (sym changes) ∙ h)) _ refl;
-  }
-    where
-      begun_owned : (o : ℕ) (v : Live) (id : RowId) → LiveAfter live s o v u → has_locks v.status ≡ true
-          → changes_row id v.ops ≡ true → get after.changes id ≡ Some (o, get (ops_on v.ops rows) id)
-      begun_owned o v id (New is own) locked names =
-          absurd (no_both (changes_row id v.ops) names (ap (changes_row id) (ap (λ (l : Live). l.ops) own ∙ none)))
-      begun_owned o v id (Old other is) locked names =
-          ap (λ c. get c id) changes ∙ tabled.owned o v id is locked names
-
-      begun_owner : (o : ℕ) (id : RowId) → Owns live o id → (b : Bool) → eq_by_cmp nat_cmp o s ≡ b → Owns (insert live s u) o id
-      begun_owner o id owns false other = owns_other live s o u id other owns
-      begun_owner o id owns true tie =
-          let there = sym owns.is_live ∙ ap (get live) (tied numbers o s tie) ∙ free in cc
-
-  -- the rows that live transactions change are the same in the new committed rows
-  abbrev pub AreLeft : Rows → Type 0
-  AreLeft others = (o : ℕ) (u : Live) (id : RowId) → get live o ≡ Some u → has_locks u.status ≡ true → changes_row id u.ops ≡ true
-      → get others id ≡ get rows id
-
-  left_seen : (others : Rows) (ops : List Op) (id : RowId) → get others id ≡ get rows id
-      → get (ops_on ops rows) id ≡ get (ops_on ops others) id
-  left_seen others ops id same =
-      get-ops_on ops rows id ∙ ap (row_after_ops id ops) (sym same) ∙ sym (get-ops_on ops others id)
-
-  -- rows that no live transaction changes are committed
-  pub tabled-put : (others : Rows) → after.committed ≡ others → after.changes ≡ table.changes → AreLeft others
+  -- other rows are committed, the same where a transaction changes them
+  pub tabled-put : (others : Rows) → after.committed ≡ others → after.changes ≡ table.changes
+      → ((q : ℕ) (id : RowId) (row : Option (List ℕ)) → made_by rows id (get live q) ≡ Some row → get others id ≡ get rows id)
       → Tabled others live after
   tabled-put others committed changes left = record {
     committed = committed;
-    owned = λ o u id is locked names.
-        ap (λ c. get c id) changes ∙ tabled.owned o u id is locked names
-        ∙ ap (λ r. Some (o, r)) (left_seen others u.ops id (left o u id is locked names));
-    owner = λ o row id h. tabled.owner o row id (ap (λ c. get c id) (sym changes) ∙ h);
+    changed = λ q id.
+        ap (λ m. shown_of q (get m id)) changes ∙ tabled.changed q id ∙ sym (made-same rows others id (get live q) (left q id));
   }
 
-  -- one transaction's changes become committed, and it ends
-  pub tabled-kept : (s : ℕ) (t : Live) → get live s ≡ Some t → has_locks t.status ≡ true
-      → ((id : RowId) → get after.committed id ≡ seen table s id) → after.changes ≡ without table.changes s
-      → Tabled (ops_on t.ops rows) (remove live s) after
-  tabled-kept s t there locks kept gone = record {
-    committed = same_map row_total row_exact after.committed (ops_on t.ops rows) (λ id.
-        kept id ∙ tabled_sees rows live table tabled s t id there locks);
-    owned = λ o u id h locked names.
-        let left = left_live live s o u h in
-        let own = tabled.owned o u id left.0 locked names in
-        ap (λ c. get c id) gone
-        ∙ without_other table.changes s o (get (ops_on u.ops rows) id) id left.1 own
-        ∙ ap (λ r. Some (o, r)) (left_seen (ops_on t.ops rows) u.ops id
-        (get-unnamed t.ops rows id (others_row o id (get (ops_on u.ops rows) id) left.1 own)));
-    owner = λ o row id h.
-        let left = left_owner table.changes s o row id (ap (λ c. get c id) (sym gone) ∙ h) in
-        owns_left live s o id left.1 (tabled.owner o row id left.0);
-  }
-    where
-      others_row : (o : ℕ) (id : RowId) (row : Option (List ℕ)) → eq_by_cmp nat_cmp o s ≡ false → get table.changes id ≡ Some (o, row)
-          → list_any (names_row id) t.ops ≡ false
-      others_row o id row other is = false_from_ne_true (list_any (names_row id) t.ops) (λ names.
-          untied numbers o s other (ap (λ (c : Change). c.0)
-          (same_Some (o, row) (s, get (ops_on t.ops rows) id) (sym is ∙ tabled.owned s t id there locks names))))
+  -- what the session sees is committed, and its transaction ends
+  pub tabled-kept : (s : ℕ) → ((id : RowId) → get after.committed id ≡ seen table s id) → after.changes ≡ without table.changes s
+      → Tabled (seen_rows rows (get live s)) (remove live s) after
+  tabled-kept s kept gone =
+      let mine = seen_rows rows (get live s) in
+      tabled-edited mine (remove live s) s None (ended_at live s)
+      (same_map row_total row_exact after.committed mine (λ id. kept id ∙ sees rows live table tabled s id (get live s) refl))
+      (λ id. ap (λ m. shown_of s (get m id)) gone ∙ own_gone table.changes s id)
+      (λ q id other. ap (λ m. shown_of q (get m id)) gone ∙ others_stay table.changes s q id other)
+      (λ q id other. made-same rows mine id (get live q) (λ row is.
+      sym (made-seen rows id (get live s))
+      ∙ ap (λ m. unwrap_or m (get rows id))
+      (sym (tabled.changed s id) ∙ other_shown s q (get table.changes id) row other (tabled.changed q id ∙ is))))
+
+-- the same table, with other room
+pub same_tabled : (rows : Rows) (live : FiniteMap nat_cmp Live) (table after : RowTable) → Tabled rows live table
+    → after.committed ≡ table.committed → after.changes ≡ table.changes → Tabled rows live after
+same_tabled rows live table after tabled committed changes =
+    tabled-put rows live table after tabled rows (committed ∙ tabled.committed) changes (λ q id row is. refl)

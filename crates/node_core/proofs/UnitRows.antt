@@ -28,7 +28,8 @@ use Rattle.node_meaning.specs.Facts.{Facts}
 use Rattle.node_meaning.proofs.LockLaws.{keys_of_live, keys_of_unit, keys_at-session, keys_at-unit}
 use Rattle.node_meaning.proofs.UnitLaws.{ops_covered, places_covered, task-unit}
 use Rattle.node_core.specs.Advancing.{AreFree, results_of}
-use Rattle.node_core.specs.Tabled.{Tabled, changes_row}
+use Rattle.node_core.specs.Tabled.{Tabled, changes_row, made_by, shown_of}
+use Rattle.node_core.proofs.Tabling.{made-from, own_shown}
 
 -- changes that keys cover name only rows that the keys cover
 covered_row : (keys : Keys) (ops : List Op) (id : RowId) → AllCovered keys ops → list_any (names_row id) ops ≡ true
@@ -65,18 +66,20 @@ module _ (order : List Event) (n : ModelNode) (facts : Facts order n) (number : 
       (conflicts_from_covers t.keys u.keys (row_parts id) id.row refl (covered_row t.keys t.ops id all changes) own)) ∙ keys_apart s t is locks)
 
   -- so the rows that it changes are the same after the unit
-  pub rows_left : (rows : Rows) (s : ℕ) (t : Live) (id : RowId) → get n.live s ≡ Some t → has_locks t.status ≡ true
-      → changes_row id t.ops ≡ true → get (ops_on (ops_at order number) rows) id ≡ get rows id
-  rows_left rows s t id is locks changes =
+  pub rows_left : (rows : Rows) (s : ℕ) (id : RowId) (row : Option (List ℕ)) → made_by rows id (get n.live s) ≡ Some row
+      → get (ops_on (ops_at order number) rows) id ≡ get rows id
+  rows_left rows s id row made =
+      let owns = made-from rows id (get n.live s) row made in
       get-unnamed (ops_at order number) rows id (false_from_ne_true (list_any (names_row id) (ops_at order number))
-      (λ names. not_changed s t id is locks changes (covered_row u.keys (ops_at order number) id unit_covered names)))
+      (λ names. not_changed s owns.0 id owns.1 owns.2 owns.3 (covered_row u.keys (ops_at order number) id unit_covered names)))
 
   free_row : (rows : Rows) (table : RowTable) → Tabled rows n.live table → (id : RowId) → covers u.keys (row_parts id) ≡ true
       → (o : Option (ℕ × Option (List ℕ))) → get table.changes id ≡ o → o ≡ None
   free_row rows table tabled id own None is = refl
   free_row rows table tabled id own (Some change) is =
-      let owns = tabled.owner change.0 change.1 id is in
-      absurd (not_changed change.0 owns.trx id owns.is_live owns.locks owns.changes own)
+      let owns = made-from rows id (get n.live change.0) change.1
+      (sym (tabled.changed change.0 id) ∙ ap (shown_of change.0) is ∙ own_shown change.0 change.1) in
+      absurd (not_changed change.0 owns.0 id owns.1 owns.2 owns.3 own)
 
   free_rows : (rows : Rows) (table : RowTable) → Tabled rows n.live table → (ops : List Op) (others : Rows) (ids : List RowId)
       → AllByRecursion (λ (id : RowId). covers u.keys (row_parts id) ≡ true) ids

@@ -3,6 +3,7 @@ use Rattle.std.specs.Prelude.{◌≡◌, ◌≤◌, ℕ, List, length, take, dro
 use Rattle.finite_map.specs.FiniteMap.{get}
 use Rattle.order_event.specs.declared.event.Event.{Event}
 use Rattle.certification.specs.Certifies.{Certifies}
+use Rattle.row_locks.specs.Alike.{HoldAlike}
 use Rattle.node_meaning.specs.declared.progress.Stage.{Stage}
 use Rattle.node_meaning.specs.declared.progress.Stage.TheVariants as stage
 use Rattle.node_meaning.specs.Node.{ModelNode, ApplyUnit, locks_of, rows_at}
@@ -39,7 +40,7 @@ pub record AreWorked (order : List Event) (table : UnitTable) : Type 0 where
 
 -- locks, rows and units are those of the live transactions and units over the rows committed so far
 pub record Tables (order : List Event) (node : Node) : Type 0 where
-  pub locks : node.locks.locks ≡ locks_of node.live node.units.units
+  pub locks : HoldAlike node.locks.locks (locks_of node.live node.units.units)
   pub rows : Tabled (rows_at order node.at.committed) node.live node.rows
   pub units : AreWorked order node.units
   pub room : node.units.room ≤ node.rows.spare

@@ -1,20 +1,15 @@
 -- when the unit of a commit can start, and what the steps of its start leave
-use Rattle.std.specs.Prelude.{◌≡◌, ◌≤◌, ◌<◌, ℕ, false, List, fold, Some, None}
+use Rattle.std.specs.Prelude.{◌≡◌, ◌≤◌, ◌<◌, ℕ, false, List, Some, None}
 use Rattle.finite_map.specs.FiniteMap.{FiniteMap, get}
-use Rattle.std.specs.List.{AllByRecursion}
 use Rattle.std.specs.Ordering.{nat_cmp}
 use Rattle.wsrep_base.specs.declared.ids.TrxId.{TrxId}
-use Rattle.key_sets.specs.declared.kind.Kind.{Kind}
-use Rattle.key_sets.specs.declared.parts.Parts.{Parts}
-use Rattle.key_sets.specs.Keys.{Keys, touches, one_key}
+use Rattle.key_sets.specs.Keys.{Keys, touches}
 use Rattle.row_model.specs.Rows.{Rows}
 use Rattle.order_event.specs.declared.event.Event.{Event}
 use Rattle.order_event.specs.declared.step.Answer.TheVariants as answer
 use Rattle.cert_meaning.specs.declared.items.CommitItem.{CommitItem}
-use Rattle.row_locks.specs.declared.holder.Holder.{Holder}
-use Rattle.row_locks.specs.declared.holder.Holder.TheVariants.{Unit as UnitHolder}
-use Rattle.row_locks.specs.Holders.{same_holder}
-use Rattle.row_locks.specs.Locks.{Locks, keys_at, with_lock, touching_sessions}
+use Rattle.row_locks.specs.Locks.{touching_sessions}
+use Rattle.row_locks.specs.Alike.{HoldAlike}
 use Rattle.node_meaning.specs.Node.{ModelNode, ApplyUnit, locks_of}
 use Rattle.node_meaning.specs.Facts.{commit_at}
 use Rattle.node_meaning.specs.Steps.{is_local, started, start_step}
@@ -67,19 +62,6 @@ pub record Aborts (f : ModelNode → ModelNode) (old new : Node) : Type 0 where
   pub units : new.units ≡ old.units
   pub spare : old.locks.spare ≤ new.locks.spare
   pub room : old.rows.spare ≤ new.rows.spare
-  pub locks : (older : FiniteMap nat_cmp ApplyUnit) → old.locks.locks ≡ locks_of old.live older
-      → new.locks.locks ≡ locks_of new.live older
+  pub locks : (older : FiniteMap nat_cmp ApplyUnit) → HoldAlike old.locks.locks (locks_of old.live older)
+      → HoldAlike new.locks.locks (locks_of new.live older)
   pub rows : (rows : Rows) → Tabled rows old.live old.rows → Tabled rows new.live new.rows
-
--- no other holder's keys touch these
-abbrev pub IsClear : Locks → ℕ → Keys → Type 0
-IsClear locks number keys = (g : Holder) → same_holder (UnitHolder number) g ≡ false → touches keys (keys_at locks g) ≡ false
-
--- the locks once the unit has these keys too
-abbrev pub unit_locked : Locks → ℕ → List (Parts × Kind) → Locks
-unit_locked locks number keys = fold (λ all key. with_lock all (UnitHolder number) key.0 key.1) locks keys
-
--- nobody is in the way of any of these keys
-abbrev pub AllClear : Locks → ℕ → List (Parts × Kind) → Type 0
-AllClear locks number keys =
-    (g : Holder) → same_holder (UnitHolder number) g ≡ false → AllByRecursion (λ key. touches (one_key key.0 key.1) (keys_at locks g) ≡ false) keys

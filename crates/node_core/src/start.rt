@@ -1,6 +1,5 @@
 ghost use Rattle.std.specs.Prelude.{◌≡◌, ◌+◌, ◌<◌, ◌≤◌, ◌^◌, List, [], length, fold, IfOk, IfErr, OnOk, OnErr, IsTrue};
 ghost use Rattle.std.specs.Option.{unwrap_or};
-ghost use Rattle.node_core.specs.Starting.{unit_locked, AllClear};
 
 use crate::answers::Started;
 use crate::node::Node;
@@ -8,9 +7,9 @@ use apply_unit::Task;
 use bf_abort::{abort, victims};
 use client_trx::Outcome;
 use indexmap::IndexSet;
-use key_sets::{KeySet, Kind, Parts};
+use key_sets::KeySet;
 use node_parts::is_local;
-use row_locks::{Holder, LockTable};
+use row_locks::Holder;
 use row_model::{ImageList, OpList};
 use std::alloc::AllocError;
 use undo_rows::Rows;
@@ -105,7 +104,7 @@ impl Node {
         self.reserve_unit(list.len(), rows)?;
         self.units.insert(number, keys, rows)?;
         self.kill_all(number, aborted.as_slice());
-        lock_unit(&mut self.locks, number, list.as_slice());
+        self.locks.hold(Holder::Unit(number), list.as_slice());
         Ok(aborted)
     }
 
@@ -181,16 +180,5 @@ impl Node {
             Outcome::Lives => self.live.put(session, trx),
             Outcome::Ends(reply) => self.waiting.put(session, reply),
         }
-    }
-}
-
-// The unit has the keys; there is room for them, and nobody stands in the way.
-fn lock_unit(locks: &mut LockTable, number: u64, keys: &[(Parts, Kind)])
-    requires room { length keys.now ≤ locks.old.spare }
-    requires clear { AllClear locks.old.locks number keys.now }
-    ensures { locks.new.locks ≡ unit_locked locks.old.locks number keys.now }
-{
-    for (parts, kind) in keys {
-        let _granted = locks.grant(Holder::Unit(number), parts, *kind);
     }
 }

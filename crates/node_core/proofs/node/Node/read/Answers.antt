@@ -3,7 +3,7 @@ use Rattle.std.proofs.Common.{refl, ap, ◌∙◌}
 use Rattle.finite_map.specs.FiniteMap.{get}
 use Rattle.node_meaning.specs.Node.{rows_at}
 use Rattle.node_meaning.specs.Client.{row_reply}
-use Rattle.node_core.proofs.ClientCalls.{sees}
+use Rattle.node_core.proofs.Tabling.{sees}
 use Rattle.node_core.proofs.node.Node.read.Goals as goal
 
 pub returns : goal.returns
@@ -11,4 +11,4 @@ returns c order st =
     c.row_reply.ensures
     ∙ ap row_reply (c.seen_by.ensures
     ∙ sees (rows_at order c.args.self.now.at.committed) c.args.self.now.live c.args.self.now.rows st.tables.rows c.args.session
-    c.args.id.now (get c.args.self.now.live c.args.session) refl c.requires.running)
+    c.args.id.now (get c.args.self.now.live c.args.session) refl)
