@@ -32,7 +32,9 @@ use Rattle.cluster_core.specs.declared.fault.StepFault.{StepFault}
 use Rattle.cluster_core.specs.declared.fault.StepFault.TheVariants as fault
 use Rattle.cluster_core.specs.Faults.{step_fault}
 use Rattle.cluster_core.specs.Acts.{IsKept, AreKept, Goes, Acted, Failed, Left, Runs, cluster_of, nodes_of}
-use Rattle.cluster_core.specs.Steps.{StoppedAt, Wants, MayFail, MayFailAt, FailedBy, after_acts, drain_acts_of}
+use Rattle.node_laws.specs.Drains.{StoppedAt, after_acts, drain_acts_of}
+use Rattle.node_laws.proofs.ClusterLaws.{length-up_to}
+use Rattle.cluster_core.specs.Steps.{Wants, MayFail, MayFailAt, FailedBy}
 use Rattle.cluster_core.proofs.SeatLaws.{seated_grow}
 
 -- ---- lists
@@ -290,10 +292,6 @@ next_seat id seats now seat k is start seated so_far =
           ∙ sym (map_append (start_node id) (up_to k) (suc k ∷ [])),
       λ order. all_append (IsSeated order) seats (seat ∷ []) (so_far.1 order) (seated order, tt),
     ))
-
-pub length-up_to : (k : ℕ) → length (up_to k) ≡ k
-length-up_to zero = refl
-length-up_to (suc k) = length-append (up_to k) (suc k ∷ []) ∙ ap (λ n. n + 1) (length-up_to k) ∙ (let e : k + 1 ≡ suc k = omega arith in e)
 
 -- the first view has few members
 pub few_at_start : (nodes : ℕ) → nodes ≤ 9 → AllByRecursion HasFewMembers (start_order nodes)

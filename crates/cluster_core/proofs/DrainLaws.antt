@@ -18,7 +18,8 @@ use Rattle.cluster_core.specs.declared.fault.StepFault.{StepFault}
 use Rattle.cluster_core.specs.declared.fault.StepFault.TheVariants as fault
 use Rattle.cluster_core.specs.declared.seat.Seat.{Seat}
 use Rattle.cluster_core.specs.Seated.{IsSeated, SeatDone, SeatUnchanged}
-use Rattle.cluster_core.specs.Steps.{after_acts, all_sent, sent_acts, taken_acts, certified_acts, commit_acts, drain_acts, Wants, MayFail}
+use Rattle.node_laws.specs.Drains.{after_acts, all_sent, sent_acts, taken_acts, certified_acts, commit_acts, drain_acts}
+use Rattle.cluster_core.specs.Steps.{Wants, MayFail}
 use Rattle.cluster_core.specs.Acts.{IsKept, Goes, Acted, Failed, Runs, Stops, Halts, cluster_of}
 use Rattle.cluster_core.specs.Drain.{Sent, SentFew, Part, PartDone, Takes, TakesFew, Certifies, CertifiesFew, Commits, CommitsFew, take_next, certify_next}
 use Rattle.cluster_core.proofs.ActLaws.{goes_same, runs_none}

@@ -12,7 +12,8 @@ use Rattle.node_core.specs.Stands.{plain_of}
 use Rattle.cluster_core.specs.declared.seat.Seat.{Seat}
 use Rattle.cluster_core.specs.Seated.{IsSeated}
 use Rattle.cluster_core.specs.declared.fault.StepFault.{StepFault}
-use Rattle.cluster_core.specs.Steps.{after_acts, drain_acts, MayFail}
+use Rattle.node_laws.specs.Drains.{after_acts, drain_acts}
+use Rattle.cluster_core.specs.Steps.{MayFail}
 
 -- the seat stands over the order, and the members of each view can be counted
 pub record IsKept (order : List Event) (seat : Seat) : Type 0 where

@@ -9,7 +9,7 @@ use Rattle.node_core.specs.Stands.{plain_of}
 use Rattle.cluster_core.specs.declared.fault.StepFault.{StepFault}
 use Rattle.cluster_core.specs.declared.seat.Seat.{Seat}
 use Rattle.cluster_core.specs.Seated.{IsSeated}
-use Rattle.cluster_core.specs.Steps.{all_sent, commit_acts}
+use Rattle.node_laws.specs.Drains.{all_sent, commit_acts}
 use Rattle.cluster_core.specs.Acts.{Goes, Runs, Halts}
 
 -- so many messages were ordered, the oldest first

@@ -1,5 +1,4 @@
 pub mod Acts
-pub mod Counted
 pub mod Drain
 pub mod Faults
 pub mod Seated

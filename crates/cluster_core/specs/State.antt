@@ -1,5 +1,5 @@
 -- a cluster as it is seen: the model's, and how often its group has failed
-use Rattle.std.specs.Prelude.{◌≡◌, ◌<◌, ◌^◌, ℕ, ◌-◌, List, slice_get, Option, Some, None}
+use Rattle.std.specs.Prelude.{ℕ, ◌-◌, List, slice_get, Option, Some, None}
 use Rattle.row_model.specs.declared.row.RowItem.{RowItem}
 use Rattle.undo_rows.specs.RowTable.{row_items}
 use Rattle.node_meaning.specs.Node.{ModelNode, rows_at}
@@ -8,11 +8,6 @@ use Rattle.node_meaning.specs.Cluster.{ModelCluster}
 pub record ClusterState : Type 0 where
   pub model : ModelCluster
   pub faults : ℕ
-
--- the names of a node's next write set and transaction are within their types
-pub record CanGoOn (n : ModelNode) : Type 0 where
-  pub serial : n.at.serial < 2 ^ 63
-  pub begin : n.at.begin < 2 ^ 63
 
 -- what a node shows at the end: how far it has committed, and its committed rows
 abbrev pub at_of : Option ModelNode → ℕ

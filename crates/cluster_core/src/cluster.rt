@@ -43,7 +43,7 @@ impl<G: Group> Model for Cluster<G> {
 
 impl<G: Group> Cluster<G> {
     ghost use Rattle.cluster_core.specs.State.{end_at, end_rows};
-    ghost use Rattle.cluster_core.specs.Counted.{given};
+    ghost use Rattle.node_laws.specs.Given.{given};
     ghost use Rattle.cluster_core.specs.Steps.{has_session, FailedBy, HasGroupCause};
 
     /// So many nodes at their start, over a group at its start. The size of the ring of events, in

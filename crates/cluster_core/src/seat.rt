@@ -26,7 +26,7 @@ impl Seat {
     ghost use Rattle.node_meaning.specs.Steps.{node_step};
     ghost use Rattle.node_core.specs.Stands.{plain_of};
     ghost use Rattle.node_core.specs.Memory.{CallWants, TakeWants, CertifyWants, StartWants};
-    ghost use Rattle.cluster_core.specs.State.{CanGoOn};
+    ghost use Rattle.node_laws.specs.Given.{CanGoOn};
     ghost use Rattle.cluster_core.specs.Seated.{IsSeated, IsSomewhere, SeatDoes, SeatTakes, SeatUnchanged};
     ghost use Rattle.std.specs.HashMap.{spare};
 

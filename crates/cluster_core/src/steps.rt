@@ -4,7 +4,7 @@ ghost use Rattle.order_event.specs.Fits.{act_fits};
 ghost use Rattle.node_meaning.specs.Node.{ModelNode};
 ghost use Rattle.node_meaning.specs.Cluster.{node_orders, orders_at, step_at};
 ghost use Rattle.node_core.specs.Stands.{plain_of};
-ghost use Rattle.cluster_core.specs.State.{CanGoOn};
+ghost use Rattle.node_laws.specs.Given.{CanGoOn};
 ghost use Rattle.cluster_core.specs.Steps.{has_session, FailedBy, HasGroupCause};
 ghost use Rattle.cluster_core.specs.Acts.{IsKept, AreKept, Acted, Failed, cluster_of, nodes_of};
 

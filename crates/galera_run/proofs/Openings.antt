@@ -5,7 +5,7 @@ use Rattle.std.proofs.lemmas.Bool.Decides.{nat_tests}
 use Rattle.order_event.specs.declared.step.Step.{Step}
 use Rattle.node_meaning.specs.Cluster.{ModelCluster, start_cluster, will_order}
 use Rattle.cluster_core.specs.State.{ClusterState}
-use Rattle.cluster_core.specs.Counted.{given}
+use Rattle.node_laws.specs.Given.{given}
 use Rattle.galera_run.specs.declared.place.Opened.{Opened}
 use Rattle.galera_run.specs.Reading.{most_events}
 use Rattle.galera_run.specs.Feeding.{IsCounted}

@@ -5,7 +5,7 @@ use Rattle.outside_io.specs.Outside.{Rose}
 use Rattle.wsrep_base.specs.StateId.{nil_id}
 use Rattle.order_event.specs.declared.step.Answer.{Answer}
 use Rattle.node_meaning.specs.Cluster.{start_cluster}
-use Rattle.cluster_core.specs.Counted.{given}
+use Rattle.node_laws.specs.Given.{given}
 use Rattle.script_text.specs.declared.line.ScriptCause.{ScriptCause}
 use Rattle.script_text.specs.declared.line.Header.{Header}
 use Rattle.script_text.specs.Steps.{IsHeader}

@@ -341,7 +341,7 @@ last_or (x ∷ xs) last (suc i) m there = later (last_or xs last i m there)
     later (inl before) = inl before
     later (inr at) = inr (ap suc at.0, at.1)
 
-length-up_to : (nodes : ℕ) → length (up_to nodes) ≡ nodes
+pub length-up_to : (nodes : ℕ) → length (up_to nodes) ≡ nodes
 length-up_to zero = refl
 length-up_to (suc nodes) = omega (arith, length-append (up_to nodes) (suc nodes ∷ []), length-up_to nodes)
 

@@ -21,3 +21,4 @@ pub mod Waiting
 pub mod InStep
 pub mod ClusterLaws
 pub mod StartedUnits
+pub mod GivenLaws

@@ -1,8 +1,8 @@
 -- The seats are those of the model's nodes at their start.
 use Rattle.std.proofs.Common.{ap, ◌∙◌, length}
 use Rattle.node_meaning.specs.Cluster.{ModelCluster}
-use Rattle.cluster_core.specs.Counted.{given}
-use Rattle.cluster_core.proofs.CountedLaws.{given_at_start, nodes_at_start}
+use Rattle.node_laws.specs.Given.{given}
+use Rattle.node_laws.proofs.GivenLaws.{given_at_start, nodes_at_start}
 use Rattle.cluster_core.proofs.ActLaws.{kept_start, cluster_start}
 use Rattle.cluster_core.proofs.cluster.Cluster.new.Goals as goal
 

@@ -2,9 +2,10 @@
 use Rattle.std.proofs.Common.{ap, sym, subst, refl, ◌-◌, ◌<◌, ◌^◌}
 use Rattle.cluster_core.specs.State.{ClusterState}
 use Rattle.cluster_core.specs.Acts.{cluster_of, nodes_of}
-use Rattle.cluster_core.specs.Counted.{given}
+use Rattle.node_laws.specs.Given.{given}
 use Rattle.cluster_core.proofs.ActLaws.{if_ok, cluster_done, cluster_failed}
-use Rattle.cluster_core.proofs.CountedLaws.{node_goes_on, given_after, nodes_after, events_after}
+use Rattle.node_laws.proofs.GivenLaws.{node_goes_on}
+use Rattle.cluster_core.proofs.CountedLaws.{given_after, nodes_after, events_after}
 use Rattle.cluster_core.proofs.cluster.Cluster.step.Goals as goal
 
 pub step_at-requires-clause-counts : goal.step_at-requires-clause-counts

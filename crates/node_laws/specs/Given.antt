@@ -1,5 +1,5 @@
 -- how much a cluster has given out
-use Rattle.std.specs.Prelude.{◌≡◌, ◌≤◌, ℕ, ◌+◌, max, List, [], ◌∷◌, length}
+use Rattle.std.specs.Prelude.{◌<◌, ◌^◌, ℕ, ◌+◌, max, List, [], ◌∷◌}
 use Rattle.finite_map.specs.FiniteMap.{len}
 use Rattle.node_meaning.specs.Node.{ModelNode}
 use Rattle.node_meaning.specs.Cluster.{ModelCluster}
@@ -17,3 +17,8 @@ nodes_given (n ∷ ns) = max (node_given n) (nodes_given ns)
 -- that, or the events, the messages that wait and the live transactions together: the greater
 unfoldable pub given : ModelCluster → ℕ
 given c = max (cluster_size c) (nodes_given c.nodes)
+
+-- the names of a node's next write set and transaction are within their types
+pub record CanGoOn (n : ModelNode) : Type 0 where
+  pub serial : n.at.serial < 2 ^ 63
+  pub begin : n.at.begin < 2 ^ 63
