@@ -1,0 +1,5 @@
+pub mod Runs
+pub mod CommitRuns
+pub mod Counts
+pub mod Puts
+pub mod Empty

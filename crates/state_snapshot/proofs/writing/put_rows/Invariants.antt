@@ -1,0 +1,8 @@
+use Rattle.std.proofs.Common.{◌≡◌, ◌++◌, length, take}
+use Rattle.std.specs.List.{flat_map}
+use Rattle.std.specs.Int.{w32, to_be_bytes}
+use Rattle.state_snapshot.specs.Spelling.{row_item_text}
+use Rattle.state_snapshot.proofs.writing.put_rows.Given as goal
+
+abbrev pub invariant-loop-item : goal.invariant-loop-item
+invariant-loop-item l = l.out ≡ l.fn.out ++ (to_be_bytes w32 (length l.items) ++ flat_map row_item_text (take l.item-index l.items))
