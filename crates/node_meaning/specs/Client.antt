@@ -15,12 +15,12 @@ use Rattle.order_event.specs.declared.event.Event.{Event}
 use Rattle.write_set.specs.Rules.{row_parts}
 use Rattle.cert_meaning.specs.Verdict.{held_by}
 use Rattle.cert_meaning.specs.Fold.{state_at}
-use Rattle.client_trx.specs.Live.{Live, begun, added, is_too_large, is_running, with_status, commit_of}
+use Rattle.client_trx.specs.Live.{Live, begun, added, is_too_large, is_due, is_running, with_status, commit_of, fragment_of, fragment_sent}
 use Rattle.client_trx.specs.declared.status.Status.TheVariants as status
 use Rattle.row_locks.specs.declared.holder.Holder.{Holder}
 use Rattle.row_locks.specs.declared.holder.Holder.TheVariants.{Session, Unit as UnitHolder}
 use Rattle.row_locks.specs.Locks.{blocker}
-use Rattle.node_meaning.specs.Node.{ModelNode, is_left, is_joining, rows_at, seen_rows, locks_of, set_live, end_live, send}
+use Rattle.node_meaning.specs.Node.{ModelNode, is_left, is_joining, rows_at, seen_rows, locks_of, set_live, end_live, send, taken_back}
 
 -- a statement: its row, the kind of its key, and its change, which `share` lacks
 pub record Statement : Type 0 where
@@ -109,32 +109,42 @@ abbrev pub row_reply : Option (List ℕ) → Reply
 row_reply None = reply.NoRow
 row_reply (Some row) = reply.Row row
 
--- a change that is accepted answers OK, and `share` the row
-abbrev pub accepted_reply : Option (List ℕ) → Option Op → Reply
-accepted_reply row None = row_reply row
-accepted_reply row (Some change) = reply.Done
+-- a fragment is sent, with what was gathered since the last one
+abbrev pub send_fragment : ModelNode → ℕ → Live → ModelNode
+send_fragment n session t =
+    set_live (send n (fragment_of t n.at.serial n.at.committed)) session (fragment_sent t)
+
+-- a change that makes a fragment due waits for its verdict
+abbrev pub changed : Bool → ModelNode → ℕ → Live → Reply × ModelNode
+changed true n session t = (reply.Pending, send_fragment n session t)
+changed false n session t = (reply.Done, set_live n session t)
+
+-- a statement is accepted, and its transaction is this now: `share` answers the row
+abbrev pub accepted : ModelNode → ℕ → Option (List ℕ) → Option Op → Live → Reply × ModelNode
+accepted n session row None t = (row_reply row, set_live n session t)
+accepted n session row (Some change) t = changed (is_due t) n session t
 
 -- a refused statement changes nothing
 abbrev pub statement_by : Option Reply → ModelNode → Reply × ModelNode → Reply × ModelNode
-statement_by (Some why) n accepted = (why, n)
-statement_by None n accepted = accepted
+statement_by (Some why) n otherwise = (why, n)
+statement_by None n otherwise = otherwise
 
 abbrev pub statement : List Event → ModelNode → ℕ → Option Live → Statement → Reply × ModelNode
 statement order n session None st = (reply.NoTrx, n)
 statement order n session (Some t) st =
     let met = met_by order n session t st in
-    statement_by (refusal met st.change) n (accepted_reply met.row st.change, set_live n session (extended t st))
+    statement_by (refusal met st.change) n (accepted n session met.row st.change (extended t st))
 
--- a transaction begins with the next begin number. Fragments are not sent yet: the unit is not looked at.
-abbrev pub begin_call : ModelNode → ℕ → Option Live → Reply × ModelNode
-begin_call n session None = (
+-- a transaction begins with the next begin number; its fragments have so many changes, and with 0 it sends none
+abbrev pub begin_call : ModelNode → ℕ → ℕ → Option Live → Reply × ModelNode
+begin_call n session unit None = (
   reply.Done,
   set_live (record n { at = record n.at { begin = n.at.begin + 1 } }) session
-      (begun (record { member = n.at.member; begin = n.at.begin }) 0),
+      (begun (record { member = n.at.member; begin = n.at.begin }) unit),
 )
-begin_call n session (Some t) = (reply.InTrx, n)
+begin_call n session unit (Some t) = (reply.InTrx, n)
 
--- the commit is sent, with what was gathered
+-- the commit is sent, with what was gathered since the last fragment
 abbrev pub send_commit : ModelNode → ℕ → Live → ModelNode
 send_commit n session t =
     set_live (send n (commit_of t n.at.serial n.at.committed)) session (with_status t status.CommitSent)
@@ -146,9 +156,10 @@ commit_call n session (Some t) =
     if length t.ops == 0 && t.sent == 0 then (reply.Committed 0, end_live n session)
     else (reply.Pending, send_commit n session t)
 
+-- a transaction ends; where it ever sent a fragment, a rollback takes its fragments back
 abbrev pub rollback_call : ModelNode → ℕ → Option Live → Reply × ModelNode
 rollback_call n session None = (reply.NoTrx, n)
-rollback_call n session (Some t) = (reply.RolledBack, end_live n session)
+rollback_call n session (Some t) = (reply.RolledBack, end_live (taken_back n t) session)
 
 abbrev pub poll_reply : Option Live → Reply
 poll_reply None = reply.NoTrx
@@ -156,7 +167,7 @@ poll_reply (Some t) = reply.Running
 
 -- the table of calls, for a session without a live transaction, or with one that is Running
 abbrev pub served : List Event → ModelNode → ℕ → Option Live → Call → Reply × ModelNode
-served order n session live (call.Begin unit) = begin_call n session live
+served order n session live (call.Begin unit) = begin_call n session unit live
 served order n session live (call.Insert id row) = statement order n session live (inserting id row)
 served order n session live (call.Update id change) = statement order n session live (updating id change)
 served order n session live (call.Delete id) = statement order n session live (deleting id)

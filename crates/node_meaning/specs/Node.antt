@@ -14,7 +14,7 @@ use Rattle.write_set.specs.Spelling.{spelling}
 use Rattle.cert_meaning.specs.declared.items.CommitItem.{CommitItem}
 use Rattle.cert_meaning.specs.State.{commit_numbered}
 use Rattle.cert_meaning.specs.Fold.{state_at}
-use Rattle.client_trx.specs.Live.{Live, has_locks}
+use Rattle.client_trx.specs.Live.{Live, has_locks, rollback_due}
 use Rattle.row_locks.specs.declared.holder.Holder.{Holder}
 use Rattle.row_locks.specs.declared.holder.Holder.TheVariants.{Session, Unit as UnitHolder}
 use Rattle.row_locks.specs.Locks.{Locks}
@@ -119,3 +119,11 @@ send n w = record n {
   at = record n.at { serial = n.at.serial + 1 };
   outbox = n.outbox ++ message.Write (spelling w) ∷ [];
 }
+
+abbrev pub send_any : ModelNode → Option WriteSet → ModelNode
+send_any n None = n
+send_any n (Some w) = send n w
+
+-- the rollback that the end of a transaction leaves is sent: where it ever sent a fragment, and nothing of its commit
+abbrev pub taken_back : ModelNode → Live → ModelNode
+taken_back n t = send_any n (rollback_due t n.at.serial n.at.committed)

@@ -32,7 +32,7 @@ pub use Rattle.trx_replay.specs.Replay.{is_certified_at, is_replaying_at, is_loc
 use Rattle.row_locks.specs.Locks.{touching_sessions}
 use Rattle.node_meaning.specs.declared.progress.Stage.{Stage}
 use Rattle.node_meaning.specs.declared.progress.Stage.TheVariants.{Started, Finished}
-use Rattle.node_meaning.specs.Node.{ModelNode, ApplyUnit, is_connected, ahead, passed_at, locks_of, set_live, end_with}
+use Rattle.node_meaning.specs.Node.{ModelNode, ApplyUnit, is_connected, ahead, passed_at, locks_of, set_live, end_with, taken_back}
 use Rattle.node_meaning.specs.Client.{client}
 
 -- ---- sending
@@ -137,10 +137,10 @@ certify_step order n =
     else certify_event order n (slice_get order n.at.certified)
 
 -- ---- units
--- a session's transaction is aborted by this unit
+-- a session's transaction is aborted by this unit; a rollback takes back the fragments of one that ends
 abbrev pub killed_session : ℕ → ModelNode → ℕ → Option Live → ModelNode
 killed_session number n session None = n
-killed_session number n session (Some t) = told n session (killed_by number t)
+killed_session number n session (Some t) = told (taken_back n t) session (killed_by number t)
 
 abbrev pub kill_session : ℕ → ModelNode → ℕ → ModelNode
 kill_session number n session = killed_session number n session (get n.live session)
