@@ -1,3 +1,4 @@
 pub mod Words
 pub mod Commits
 pub mod Units
+pub mod Streaming
