@@ -1,7 +1,8 @@
 -- Every client call keeps what holds of a node.
-use Rattle.std.proofs.Common.{◌≡◌, ℕ, ◌+◌, ◌≤◌, Bool, true, false, cond, List, [], ◌∷◌, length, Option, None, Some, refl, ap, arith, length-append}
+use Rattle.std.proofs.Common.{◌≡◌, ℕ, ◌+◌, ◌≤◌, ◌<◌, Bool, true, false, cond, List, [], ◌∷◌, length, Option, None, Some, refl, ap, arith, length-append}
 use Rattle.std.specs.Prelude.{◌==◌, ◌&&◌, not, IfSome, IsTrue, is_some, is_none, option_map}
 use Rattle.std.specs.Ordering.{nat_cmp}
+use Rattle.std.proofs.lemmas.Bool.Decides.{nat_tests}
 use Rattle.finite_map.proofs.Edits.{numbers, each_put, each_left}
 use Rattle.finite_map.specs.FiniteMap.{FiniteMap, empty, insert, remove, get-empty, len-empty}
 use Rattle.key_sets.specs.declared.kind.Kind.{Kind}
@@ -11,7 +12,7 @@ use Rattle.row_model.specs.declared.calls.Reply.TheVariants as reply
 use Rattle.row_model.specs.Names.{place_fits}
 use Rattle.write_set.specs.Rules.{row_parts, place_in_range, OpInRange}
 use Rattle.client_trx.specs.KeyedOps.{Keyed, IsKeyOf, IsPart, with_op, is_over}
-use Rattle.client_trx.specs.Live.{Live, begun, is_running, with_status, whole_of, newest_of}
+use Rattle.client_trx.specs.Live.{Live, begun, is_due, is_running, with_status, fragment_sent, whole_of, newest_of}
 use Rattle.client_trx.specs.declared.status.Status.{Status}
 use Rattle.client_trx.specs.declared.status.Status.TheVariants as status
 use Rattle.node_meaning.specs.Client.{Statement, Met, first_line, where_true, is_insert, busy_reply, missing_column, refusal, extended}
@@ -50,14 +51,14 @@ running_where (status.Replaying n) h = cc
 
 -- ---- a transaction begins
 
-abbrev pub first : ℕ → ℕ → Live
-first member begin = begun (record { member = member; begin = begin }) 0
+abbrev pub first : ℕ → ℕ → ℕ → Live
+first member begin unit = begun (record { member = member; begin = begin }) unit
 
 none_part : (whole : Keyed) → IsPart whole (record { keys = empty; ops = [] })
 none_part whole = record { keys = λ p none. get-empty parts_cmp p; ops = omega arith }
 
-pub sendable_first : (member begin : ℕ) → IsSendable (first member begin)
-sendable_first member begin = record {
+pub sendable_first : (member begin unit : ℕ) → IsSendable (first member begin unit)
+sendable_first member begin unit = record {
   fit = none_fit empty [] refl refl;
   part = none_part (record { keys = empty; ops = [] });
   newest = none_fit empty [] refl refl;
@@ -140,6 +141,20 @@ sendable_again t to h = record {
   newest = h.newest;
   range = h.range;
   few = h.few;
+}
+
+-- a fragment that is due has a change
+pub due_change : (t : Live) → is_due t ≡ true → 0 < length t.new_ops
+due_change t due = grind (arith, nat_tests)
+
+-- what was sent as a fragment is sent: it has gathered nothing since
+pub sendable_sent : (t : Live) → 0 < length t.new_ops → IsSendable t → IsSendable (fragment_sent t)
+sendable_sent t change h = record {
+  fit = h.fit;
+  part = none_part (whole_of t);
+  newest = none_fit empty [] refl refl;
+  range = (empty-in_range, tt);
+  few = omega (arith, change, h.few);
 }
 
 pub running_of : (t : Live) → not (is_running t.status) ≡ false → t.status ≡ status.Running

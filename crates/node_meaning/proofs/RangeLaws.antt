@@ -22,8 +22,8 @@ use Rattle.write_set.specs.Reading.{decoded}
 use Rattle.write_set.proofs.RulesOf.{both}
 use Rattle.write_set.proofs.WholeLaws.{read_again}
 use Rattle.client_trx.specs.KeyedOps.{with_op}
-use Rattle.client_trx.specs.Live.{Live, gathered, commit_flags, commit_of}
-use Rattle.client_trx.proofs.FitLemmas.{commit_obeys}
+use Rattle.client_trx.specs.Live.{Live, gathered, commit_flags, commit_of, fragment_flags, fragment_of, rollback_of}
+use Rattle.client_trx.proofs.FitLemmas.{commit_obeys, fragment_obeys, rollback_obeys}
 use Rattle.node_meaning.specs.declared.progress.Progress.{Progress}
 use Rattle.node_meaning.specs.Facts.{ProgressInRange, IsSendable}
 
@@ -99,3 +99,26 @@ module _ (at : Progress) (t : Live) (range : ProgressInRange at) (member : t.trx
       ≡ Some (commit_of t at.serial at.committed)
   commit-decoded = sent_again (commit_flags t.sent)
       (commit_obeys (commit_of t at.serial at.committed) refl h.newest)
+
+  -- its next fragment
+  pub fragment-decoded : decoded (spelling (fragment_of t at.serial at.committed))
+      ≡ Some (fragment_of t at.serial at.committed)
+  fragment-decoded = sent_again (fragment_flags t.sent)
+      (fragment_obeys (fragment_of t at.serial at.committed) refl h.newest)
+
+  -- the rollback of its fragments, which has no key and no change
+  pub rollback-decoded : decoded (spelling (rollback_of t at.serial at.committed))
+      ≡ Some (rollback_of t at.serial at.committed)
+  rollback-decoded =
+      let below = range.begin in
+      let own : InRange (rollback_of t at.serial at.committed) = record {
+        member = subst (λ m. m < 2 ^ 32) (sym member) range.member;
+        serial = range.serial;
+        begin = omega (arith, begun, below);
+        fragment = omega arith;
+        last_seen = range.committed;
+        keys = empty-in_range;
+        ops = tt;
+      } in
+      ap result_ok (read_again (rollback_of t at.serial at.committed) own
+      (rollback_obeys (rollback_of t at.serial at.committed) refl refl refl refl))

@@ -6,11 +6,12 @@ use Rattle.std.proofs.lemmas.Bool.{false_from_ne_true}
 use Rattle.finite_map.proofs.Edits.{numbers, Inserted, AtKey, Elsewhere, inserted, left, untied}
 use Rattle.finite_map.specs.FiniteMap.{FiniteMap, get, insert, remove}
 use Rattle.key_sets.proofs.ListLemmas.{In}
-use Rattle.client_trx.specs.Live.{Live, has_locks, with_status, killed_in}
+use Rattle.write_set.specs.declared.write_set.WriteSet.{WriteSet}
+use Rattle.client_trx.specs.Live.{Live, has_locks, with_status, killed_in, rollback_due}
 use Rattle.client_trx.specs.declared.status.Status.{Status}
 use Rattle.client_trx.specs.declared.status.Status.TheVariants as status
-use Rattle.node_meaning.specs.Node.{ModelNode}
-use Rattle.node_meaning.specs.Steps.{told, killed_session, kill_session}
+use Rattle.node_meaning.specs.Node.{ModelNode, send_any}
+use Rattle.node_meaning.specs.Steps.{told, ended_session, sent_rollback, killed_session, kill_session}
 use Rattle.node_meaning.proofs.EntryLaws.{some_not_none}
 
 -- what a kill leaves of the live transactions: those with locks are as they were, and the killed one has none
@@ -50,15 +51,39 @@ status_killed n s number t (status.Certified m) now = put_killed n.live s (with_
 status_killed n s number t status.KilledSent now = put_killed n.live s t (ap has_locks now)
 status_killed n s number t (status.Replaying m) now = put_killed n.live s t (ap has_locks now)
 
-option_killed : (n : ModelNode) (s number : ℕ) (o : Option Live) → get n.live s ≡ o → Killed n.live (killed_session number n s o).live s
+-- a rollback that is sent changes no live transaction, and no unit
+pub live-sent_any : (n : ModelNode) (o : Option WriteSet) → (send_any n o).live ≡ n.live
+live-sent_any n None = refl
+live-sent_any n (Some w) = refl
+
+units-sent_any : (n : ModelNode) (o : Option WriteSet) → (send_any n o).units ≡ n.units
+units-sent_any n None = refl
+units-sent_any n (Some w) = refl
+
+pub live-sent_rollback : (n : ModelNode) (o : Option Live) → (sent_rollback n o).live ≡ n.live
+live-sent_rollback n None = refl
+live-sent_rollback n (Some t) = live-sent_any n (rollback_due t n.at.serial n.at.committed)
+
+units-sent_rollback : (n : ModelNode) (o : Option Live) → (sent_rollback n o).units ≡ n.units
+units-sent_rollback n None = refl
+units-sent_rollback n (Some t) = units-sent_any n (rollback_due t n.at.serial n.at.committed)
+
+option_killed : (n : ModelNode) (s number : ℕ) (o : Option Live) → get n.live s ≡ o → Killed n.live (ended_session number n s o).live s
 option_killed n s number None is = record {
   fewer = λ o u there locks. there;
   unlocked = λ u there. absurd (some_not_none u (get n.live s) there is);
 }
 option_killed n s number (Some t) is = status_killed n s number t t.status refl
 
+session_killed : (n : ModelNode) (s number : ℕ) (o : Option Live) → get n.live s ≡ o → Killed n.live (killed_session number n s o).live s
+session_killed n s number o is =
+    let m = sent_rollback n o in
+    let same = live-sent_rollback n o in
+    subst (λ before. Killed before (ended_session number m s o).live s) same
+    (option_killed m s number o (ap (λ (live : FiniteMap nat_cmp Live). get live s) same ∙ is))
+
 pub kill_leaves : (number : ℕ) (n : ModelNode) (s : ℕ) → Killed n.live (kill_session number n s).live s
-kill_leaves number n s = option_killed n s number (get n.live s) refl
+kill_leaves number n s = session_killed n s number (get n.live s) refl
 
 status_units : (n : ModelNode) (s number : ℕ) (t : Live) (st : Status) → (told n s (killed_in st number t)).units ≡ n.units
 status_units n s number t status.Running = refl
@@ -68,13 +93,16 @@ status_units n s number t (status.Certified m) = refl
 status_units n s number t status.KilledSent = refl
 status_units n s number t (status.Replaying m) = refl
 
-option_units : (n : ModelNode) (s number : ℕ) (o : Option Live) → (killed_session number n s o).units ≡ n.units
+option_units : (n : ModelNode) (s number : ℕ) (o : Option Live) → (ended_session number n s o).units ≡ n.units
 option_units n s number None = refl
 option_units n s number (Some t) = status_units n s number t t.status
 
+session_units : (n : ModelNode) (s number : ℕ) (o : Option Live) → (killed_session number n s o).units ≡ n.units
+session_units n s number o = option_units (sent_rollback n o) s number o ∙ units-sent_rollback n o
+
 pub kills_units : (number : ℕ) (victims : List ℕ) (n : ModelNode) → (fold (kill_session number) n victims).units ≡ n.units
 kills_units number [] n = refl
-kills_units number (v ∷ vs) n = kills_units number vs (kill_session number n v) ∙ option_units n v number (get n.live v)
+kills_units number (v ∷ vs) n = kills_units number vs (kill_session number n v) ∙ session_units n v number (get n.live v)
 
 -- who has locks afterwards is as before
 pub kills_fewer : (number : ℕ) (victims : List ℕ) (n : ModelNode) (o : ℕ) (u : Live)

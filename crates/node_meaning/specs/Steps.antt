@@ -1,6 +1,6 @@
 -- the steps of one node over the order: what each is answered, and the node after it
 use Rattle.std.specs.Prelude.{ℕ, zero, suc, ◌+◌, ◌-◌, ◌==◌, ◌&&◌, ◌||◌, nat_lt, Bool, true, false, not, List, [], ◌∷◌, ◌++◌, length, map, slice_get, Option, Some, None, is_some, if◌then◌else◌}
-use Rattle.std.specs.List.{filter, find, fold, list_any}
+use Rattle.std.specs.List.{filter, find, fold}
 use Rattle.std.specs.Str.{bytes_eq}
 use Rattle.std.specs.Ordering.{nat_cmp}
 use Rattle.finite_map.specs.FiniteMap.{FiniteMap, get, insert, remove}
@@ -23,8 +23,6 @@ use Rattle.write_set.specs.declared.write_set.WriteSet.{WriteSet}
 use Rattle.write_set.specs.Reading.{decoded}
 use Rattle.cert_meaning.specs.declared.items.CommitItem.{CommitItem}
 use Rattle.cert_meaning.specs.Fold.{judged, state_at}
-use Rattle.client_trx.specs.declared.status.Status.{Status}
-use Rattle.client_trx.specs.declared.status.Status.TheVariants as status
 use Rattle.client_trx.specs.declared.status.Outcome.{Outcome}
 use Rattle.client_trx.specs.declared.status.Outcome.TheVariants.{Lives, Ends}
 use Rattle.client_trx.specs.Live.{Live, is_sent, judged_by, killed_by}
@@ -137,10 +135,24 @@ certify_step order n =
     else certify_event order n (slice_get order n.at.certified)
 
 -- ---- units
--- a session's transaction is aborted by this unit; a rollback takes back the fragments of one that ends
+-- a unit aborts a session's transaction: that ends, and its session is told so; or it loses its locks
+abbrev pub ended_session : ℕ → ModelNode → ℕ → Option Live → ModelNode
+ended_session number n session None = n
+ended_session number n session (Some t) = told n session (killed_by number t)
+
+abbrev pub end_killed : ℕ → ModelNode → ℕ → ModelNode
+end_killed number n session = ended_session number n session (get n.live session)
+
+-- before that, a rollback takes back the fragments of one that ends
+abbrev pub sent_rollback : ModelNode → Option Live → ModelNode
+sent_rollback n None = n
+sent_rollback n (Some t) = taken_back n t
+
+abbrev pub send_rollback : ModelNode → ℕ → ModelNode
+send_rollback n session = sent_rollback n (get n.live session)
+
 abbrev pub killed_session : ℕ → ModelNode → ℕ → Option Live → ModelNode
-killed_session number n session None = n
-killed_session number n session (Some t) = told (taken_back n t) session (killed_by number t)
+killed_session number n session live = ended_session number (sent_rollback n live) session live
 
 abbrev pub kill_session : ℕ → ModelNode → ℕ → ModelNode
 kill_session number n session = killed_session number n session (get n.live session)
