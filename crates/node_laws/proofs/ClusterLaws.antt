@@ -23,7 +23,7 @@ use Rattle.node_meaning.proofs.GrowFacts.{facts_grow}
 use Rattle.node_meaning.proofs.StartNode.{start_facts}
 use Rattle.node_laws.specs.Sizes.{node_size, sizes, cluster_size}
 use Rattle.node_laws.proofs.Moves.{with_ordered, Orders, Reaches}
-use Rattle.node_laws.proofs.AdvanceMoves.{CanStep}
+use Rattle.node_laws.proofs.AdvanceMoves.{CanDrain, CanStep}
 use Rattle.node_laws.proofs.Counts.{Grows, reach_grows}
 use Rattle.node_laws.proofs.FactsMoved.{facts_moved, facts_reached}
 use Rattle.node_laws.proofs.InStep.{IsInStep, in_step_reached, in_step_ordered, in_step_beside}
@@ -97,7 +97,8 @@ stepped_grows c given ordered d (Moved i n m there row) =
     }
 stepped_grows c given ordered d (Ordered i n m front back there is row) =
     let more = map (event_of n.at.member) front in
-    let grows = reach_grows (c.order ++ more) (Unit {0}) true (with_ordered n front back) 0 m row in
+    let sent = with_ordered n front back in
+    let grows = reach_grows (c.order ++ more) (CanDrain (c.order ++ more) sent) true sent 0 m row in
     let out : length n.outbox ≡ length front + length back = ap length is ∙ length-append front back in
     let long : length (c.order ++ more) ≡ length c.order + length front =
     length-append c.order more ∙ ap (λ k. length c.order + k) (length-map front (event_of n.at.member)) in
@@ -196,7 +197,13 @@ module _ (most : ℕ) (c : ModelCluster) (small : most < 2 ^ 63) (sound : SoundC
   can_step act.Order fits n s = tt
   can_step act.Take fits n s = tt
   can_step act.Certify fits n s = tt
-  can_step (act.Start number) fits n s = tt
+  can_step (act.Start number) fits n s =
+      let range = in_range n s in record {
+        member = s.member;
+        committed = range.committed;
+        serial = omega (arith, small, s.serial);
+        begin = range.begin;
+      }
   can_step (act.Finish number) fits n s = tt
   can_step act.Advance fits n s = tt
   can_step act.Drain fits n s = tt
@@ -253,7 +260,8 @@ module _ (most : ℕ) (c : ModelCluster) (small : most < 2 ^ 63) (sound : SoundC
 
     ordered_sound : (i : ℕ) (n m : ModelNode) (front back : List Message) → slice_get c.nodes i ≡ Some n
         → n.outbox ≡ front ++ back
-        → Reaches (c.order ++ map (event_of n.at.member) front) (Unit {0}) true (with_ordered n front back) 0 m
+        → Reaches (c.order ++ map (event_of n.at.member) front)
+        (CanDrain (c.order ++ map (event_of n.at.member) front) (with_ordered n front back)) true (with_ordered n front back) 0 m
         → SoundCluster (most + 1)
         (record { order = c.order ++ map (event_of n.at.member) front; nodes = set_at c.nodes i m })
     ordered_sound i n m front back there is row =
@@ -261,17 +269,25 @@ module _ (most : ℕ) (c : ModelCluster) (small : most < 2 ^ 63) (sound : SoundC
         let order = c.order ++ more in
         let s = sound.nodes i n there in
         let sent = with_ordered n front back in
-        let grows = reach_grows order (Unit {0}) true sent 0 m row in
+        let grows = reach_grows order (CanDrain order sent) true sent 0 m row in
         let inside = s.facts.in_order.taken_fits in
         let facts = facts_moved order (Unit {0}) tt n _ sent (Orders front back is) (facts_grow c.order more n s.facts) in
-        let new = reached_sound (most + 1) order (Unit {0}) tt sent 0 m row facts
-        (in_step_ordered c.order n inside s.in_step front back) s.idle s.member
-        (omega (arith, s.serial)) (omega (arith, s.begin)) in
         let out : length n.outbox ≡ length front + length back = ap length is ∙ length-append front back in
         let long : length order ≡ length c.order + length front =
         length-append c.order more ∙ ap (λ k. length c.order + k) (length-map front (event_of n.at.member)) in
+        let size : cluster_size (record { order = order; nodes = set_at c.nodes i m }) ≤ most + 1 =
+        omega (arith, sound.size, sizes-set c.nodes i n m there, grows.size, out, long) in
+        let can : CanDrain order sent = record {
+          member = s.member;
+          events = omega (arith, small, size);
+          serial = omega (arith, small, s.serial);
+          begin = omega (arith, small, s.begin);
+        } in
+        let new = reached_sound (most + 1) order (CanDrain order sent) can sent 0 m row facts
+        (in_step_ordered c.order n inside s.in_step front back) s.idle s.member
+        (omega (arith, s.serial)) (omega (arith, s.begin)) in
         record {
-          size = omega (arith, sound.size, sizes-set c.nodes i n m there, grows.size, out, long);
+          size = size;
           differ = differ_set c.nodes i n m there grows.member sound.differ;
           nodes = λ j o at. all_sound order i m new
               (λ k x beside was.

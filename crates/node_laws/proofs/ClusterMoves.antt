@@ -10,7 +10,7 @@ use Rattle.node_meaning.specs.Node.{ModelNode}
 use Rattle.node_meaning.specs.Steps.{first_sent, sent_out, node_step, drained}
 use Rattle.node_meaning.specs.Cluster.{ModelCluster, set_at, order_first, drain, step_of, step_at, cluster_step, orders_of, node_orders, orders_at, will_order}
 use Rattle.node_laws.proofs.Moves.{with_ordered, Reaches, Here, to_same}
-use Rattle.node_laws.proofs.AdvanceMoves.{CanStep, step_moves, drained_moves}
+use Rattle.node_laws.proofs.AdvanceMoves.{CanDrain, CanStep, step_moves, drained_moves}
 
 -- so many events are ordered
 pub data Stepped (c : ModelCluster) (given : ModelNode → Type 0) : ℕ → ModelCluster → Type 0 where
@@ -21,7 +21,8 @@ pub data Stepped (c : ModelCluster) (given : ModelNode → Type 0) : ℕ → Mod
       → Stepped c given 0 (record c { nodes = set_at c.nodes i m })
   -- messages are ordered, and then moves of the node that pay nothing
   Ordered : (i : ℕ) (n m : ModelNode) (front back : List Message) → slice_get c.nodes i ≡ Some n → n.outbox ≡ front ++ back
-      → Reaches (c.order ++ map (event_of n.at.member) front) (Unit {0}) true (with_ordered n front back) 0 m
+      → Reaches (c.order ++ map (event_of n.at.member) front)
+      (CanDrain (c.order ++ map (event_of n.at.member) front) (with_ordered n front back)) true (with_ordered n front back) 0 m
       → Stepped c given (length front) (record { order = c.order ++ map (event_of n.at.member) front; nodes = set_at c.nodes i m })
 
 module _ (c : ModelCluster) (i : ℕ) where
@@ -38,7 +39,7 @@ module _ (c : ModelCluster) (i : ℕ) where
     drain_moves given =
         let order = c.order ++ map (event_of n.at.member) n.outbox in
         let sent = with_ordered n n.outbox [] in
-        Ordered i n (drained order sent) n.outbox [] there (sym (append-nil n.outbox)) (drained_moves order (Unit {0}) sent)
+        Ordered i n (drained order sent) n.outbox [] there (sym (append-nil n.outbox)) (drained_moves order (CanDrain order sent) sent (λ g. g))
 
     act_moves : (a : Act) → Stepped c (λ n. CanStep n a) (node_orders a n) (step_of c i n a).1
     act_moves (act.Client session call) = node_moves (act.Client session call)

@@ -7,12 +7,12 @@ use Rattle.finite_map.proofs.Edits.{numbers, len-over, len-new, len-left}
 use Rattle.order_event.specs.declared.event.Event.{Event}
 use Rattle.order_event.specs.declared.event.Message.TheVariants as message
 use Rattle.write_set.specs.Spelling.{spelling}
-use Rattle.client_trx.specs.Live.{with_status, passed_status, commit_of}
+use Rattle.client_trx.specs.Live.{with_status, passed_status, commit_of, fragment_of, fragment_sent}
 use Rattle.client_trx.specs.declared.status.Status.TheVariants as status
 use Rattle.node_meaning.specs.Node.{ModelNode}
 use Rattle.node_meaning.specs.Client.{extended}
 use Rattle.node_meaning.proofs.ClientFacts.{first}
-use Rattle.node_laws.proofs.Moves.{Kind, Pays, Works, Quiet, cost, Move, Begins, Extends, Sends, Ends, Unlocks, Orders, Passes, Fails, Commits, Reaches, Here, Quietly, Working, Paying}
+use Rattle.node_laws.proofs.Moves.{Kind, Pays, Works, Quiet, cost, Move, Begins, Extends, Streams, Sends, Ends, TakesBack, Unlocks, Orders, Passes, Fails, Commits, Reaches, Here, Quietly, Working, Paying}
 
 pub record Grows (k : ℕ) (n m : ModelNode) : Type 0 where
   pub member : m.at.member ≡ n.at.member
@@ -22,12 +22,17 @@ pub record Grows (k : ℕ) (n m : ModelNode) : Type 0 where
 
 pub move_grows : (order : List Event) (given : Type 0) (n : ModelNode) (c : Kind) (m : ModelNode)
     → Move order given n c m → Grows (cost c) n m
-move_grows order given n c m (Begins s may) =
-    let l = len-new numbers n.live s (first n.at.member n.at.begin) may.none in
+move_grows order given n c m (Begins s unit may) =
+    let l = len-new numbers n.live s (first n.at.member n.at.begin unit) may.none in
     record { member = refl; begin = omega arith; serial = omega (arith, l); size = omega (arith, l) }
 move_grows order given n c m (Extends s t st here fits free) =
     let l = len-over numbers n.live s (extended t st) (ap is_some here.there) in
     record { member = refl; begin = omega arith; serial = omega (arith, l); size = omega (arith, l) }
+move_grows order given n c m (Streams s t here change range) =
+    let l = len-over numbers n.live s (fragment_sent t) (ap is_some here.there) in
+    let sent = message.Write (spelling (fragment_of t n.at.serial n.at.committed)) in
+    let q = length-append n.outbox (sent ∷ []) in
+    record { member = refl; begin = omega arith; serial = omega (arith, l); size = omega (arith, l, q) }
 move_grows order given n c m (Sends s t here range) =
     let l = len-over numbers n.live s (with_status t status.CommitSent) (ap is_some here.there) in
     let sent = message.Write (spelling (commit_of t n.at.serial n.at.committed)) in
@@ -36,6 +41,10 @@ move_grows order given n c m (Sends s t here range) =
 move_grows order given n c m (Ends s t o there) =
     let l = len-left numbers n.live s t there in
     record { member = refl; begin = omega arith; serial = omega (arith, l); size = omega (arith, l) }
+move_grows order given n c m (TakesBack s t w o there due range) =
+    let l = len-left numbers n.live s t there in
+    let q = length-append n.outbox (message.Write (spelling w) ∷ []) in
+    record { member = refl; begin = omega arith; serial = omega (arith, l); size = omega (arith, l, q) }
 move_grows order given n c m (Unlocks s t to there unlocked) =
     let l = len-over numbers n.live s (with_status t to) (ap is_some there) in
     record { member = refl; begin = omega arith; serial = omega (arith, l); size = omega (arith, l) }

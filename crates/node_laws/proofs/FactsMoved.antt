@@ -11,7 +11,7 @@ use Rattle.key_sets.proofs.KeyLaws.{touches-symm, touches-empty}
 use Rattle.order_event.specs.declared.event.Event.{Event}
 use Rattle.write_set.specs.Rules.{row_parts}
 use Rattle.cert_meaning.specs.declared.items.CommitItem.{CommitItem}
-use Rattle.client_trx.specs.Live.{Live, is_sent, has_locks, with_status, passed_status}
+use Rattle.client_trx.specs.Live.{Live, is_sent, has_locks, with_status, passed_status, fragment_sent}
 use Rattle.client_trx.specs.declared.status.Status.{Status}
 use Rattle.client_trx.specs.declared.status.Status.TheVariants as status
 use Rattle.row_locks.specs.declared.holder.Holder.{Holder}
@@ -30,7 +30,7 @@ use Rattle.node_meaning.proofs.ClientFacts.{remote_put, remote_left, free_of, fi
 use Rattle.node_meaning.proofs.CertifyFacts.{later_unit}
 use Rattle.node_meaning.proofs.FinishFacts.{same_unit}
 use Rattle.node_meaning.proofs.AdvanceFacts.{still_unit}
-use Rattle.node_laws.proofs.Moves.{Kind, Move, Begins, Extends, Sends, Ends, Unlocks, Takes, Certifies, Passes, Fails, Starts, Finishes, Advances, Commits, Reaches, kept, Unlocked, Sent, Passed, MayStart, MayCommit}
+use Rattle.node_laws.proofs.Moves.{Kind, Move, Begins, Extends, Streams, Sends, Ends, TakesBack, Unlocks, Takes, Certifies, Passes, Fails, Starts, Finishes, Advances, Commits, Reaches, kept, Unlocked, Sent, Passed, MayStart, MayCommit}
 use Rattle.node_laws.proofs.Sendable.{sendable_moved}
 use Rattle.node_laws.proofs.SentMoved.{sent_moved}
 
@@ -172,13 +172,17 @@ module _ (order : List Event) (n : ModelNode) (f : Facts order n) where
 
   remote_moved : (given : Type 0) (k : Kind) (m : ModelNode) → Move order given n k m
       → (number : ℕ) (u : ApplyUnit) → get m.units number ≡ Some u → is_local m.live number ≡ false
-  remote_moved given k m (Begins s none) =
-      λ j v here. remote_put n.live s j (first n.at.member n.at.begin) (f.remote j v here) refl
+  remote_moved given k m (Begins s unit none) =
+      λ j v here. remote_put n.live s j (first n.at.member n.at.begin unit) (f.remote j v here) refl
   remote_moved given k m (Extends s t st at fits free) = λ j v here.
       remote_put n.live s j (extended t st) (f.remote j v here) (ap (is_certified_at j) at.running)
+  remote_moved given k m (Streams s t at change range) =
+      λ j v here. remote_put n.live s j (fragment_sent t) (f.remote j v here) refl
   remote_moved given k m (Sends s t at range) =
       λ j v here. remote_put n.live s j (with_status t status.CommitSent) (f.remote j v here) refl
   remote_moved given k m (Ends s t waiting there) =
+      λ j v here. remote_left n.live s j (f.remote j v here)
+  remote_moved given k m (TakesBack s t w o there due range) =
       λ j v here. remote_left n.live s j (f.remote j v here)
   remote_moved given k m (Unlocks s t to there unlocked) = λ j v here.
       remote_put n.live s j (with_status t to) (f.remote j v here)
@@ -247,16 +251,20 @@ module _ (order : List Event) (n : ModelNode) (f : Facts order n) where
 
   apart_moved : (given : Type 0) (k : Kind) (m : ModelNode) → Move order given n k m
       → AreApart (locks_of m.live m.units)
-  apart_moved given k m (Begins s none) =
-      apart-unlocked n.live n.units f.apart s (first n.at.member n.at.begin) no_lock
+  apart_moved given k m (Begins s unit none) =
+      apart-unlocked n.live n.units f.apart s (first n.at.member n.at.begin unit) no_lock
   apart_moved given k m (Extends s t st here fits free) =
       apart-extended n.live n.units f.apart s t (extended t st) (row_parts st.id) st.kind here.there
       (ap has_locks here.running)
       (ap has_locks here.running) refl (free_of (met_by order n s t st) st.change free).free
+  apart_moved given k m (Streams s t here change range) =
+      apart-replaced n.live n.units f.apart s t (fragment_sent t) here.there
+      (ap has_locks (sym here.running)) refl
   apart_moved given k m (Sends s t here range) =
       apart-replaced n.live n.units f.apart s t (with_status t status.CommitSent) here.there
       (ap has_locks (sym here.running)) refl
   apart_moved given k m (Ends s t waiting there) = apart-ended n.live n.units f.apart s
+  apart_moved given k m (TakesBack s t w o there due range) = apart-ended n.live n.units f.apart s
   apart_moved given k m (Unlocks s t to there unlocked) =
       apart-unlocked n.live n.units f.apart s (with_status t to)
       (ap (λ b. lock_keys b t.keys) (unlocked_locks t.status to unlocked))

@@ -16,7 +16,7 @@ use Rattle.group_order.specs.Order.{event_of, up_to}
 use Rattle.node_meaning.specs.Node.{ModelNode, start_node}
 use Rattle.node_meaning.specs.Steps.{sent_out, first_sent, commit_next, all_taken, all_certified}
 use Rattle.node_meaning.specs.Cluster.{ModelCluster, start_cluster, set_at, order_first, step_of, step_at, cluster_step}
-use Rattle.node_laws.specs.Sizes.{node_size, sizes, cluster_size}
+use Rattle.node_laws.specs.Sizes.{node_size}
 use Rattle.node_laws.specs.Given.{node_given, nodes_given, given, CanGoOn}
 use Rattle.node_laws.specs.Drains.{after_acts, all_sent, commit_acts, certified_acts, taken_acts, sent_acts, drain_acts, drain_acts_of, StoppedAt}
 use Rattle.node_laws.proofs.Counts.{Grows}

@@ -1,7 +1,7 @@
 -- The moves of a model node: the edits that its steps are made of, each with what holds where it is made. A law of steps
 -- is proved once over them, by cases on a move, and is said of the parts of the node that it reads: then all moves that
 -- leave these alone are one case.
-use Rattle.std.proofs.Common.{◌≡◌, ℕ, suc, ◌+◌, Bool, true, false, cond, List, [], ◌∷◌, ◌++◌, Option, None, Some, refl, sym, subst}
+use Rattle.std.proofs.Common.{◌≡◌, ℕ, suc, ◌+◌, ◌≤◌, ◌<◌, Bool, true, false, cond, List, [], ◌∷◌, ◌++◌, length, Option, None, Some, refl, sym, subst}
 use Rattle.std.specs.Prelude.{◌==◌, slice_get}
 use Rattle.std.specs.List.{filter_map}
 use Rattle.std.specs.Ordering.{nat_cmp}
@@ -20,21 +20,21 @@ use Rattle.write_set.specs.Reading.{decoded}
 use Rattle.cert_meaning.specs.declared.items.CommitItem.{CommitItem}
 use Rattle.cert_meaning.specs.Verdict as rules
 use Rattle.cert_meaning.specs.Fold.{state_at}
-use Rattle.client_trx.specs.Live.{Live, is_sent, has_locks, with_status, passed_status}
+use Rattle.client_trx.specs.Live.{Live, is_sent, has_locks, with_status, passed_status, rollback_due}
 use Rattle.client_trx.specs.declared.status.Status.{Status}
 use Rattle.client_trx.specs.declared.status.Status.TheVariants as status
 use Rattle.node_meaning.specs.declared.progress.Stage.TheVariants.{Started, Finished}
-use Rattle.node_meaning.specs.Node.{ModelNode, ApplyUnit, set_live, end_with, ahead, passed_at}
-use Rattle.node_meaning.specs.Client.{Statement, extended, met_by, refusal, send_commit}
+use Rattle.node_meaning.specs.Node.{ModelNode, ApplyUnit, set_live, end_with, send, ahead, passed_at}
+use Rattle.node_meaning.specs.Client.{Statement, extended, met_by, refusal, send_fragment, send_commit}
 use Rattle.node_meaning.specs.Steps.{unqueued, session_of, is_local, touching_before, committer_of, is_ready}
 use Rattle.node_meaning.specs.Facts.{ProgressInRange, IsUndecided, own_body, sent_body}
 use Rattle.node_meaning.proofs.ClientFacts.{StatementFits, first}
 
 -- ---- the nodes that moves lead to
-abbrev pub with_begun : ModelNode → ℕ → ModelNode
-with_begun n s =
+abbrev pub with_begun : ModelNode → ℕ → ℕ → ModelNode
+with_begun n s unit =
     set_live (record n { at = record n.at { begin = n.at.begin + 1 } }) s
-    (first n.at.member n.at.begin)
+    (first n.at.member n.at.begin unit)
 
 abbrev pub with_ordered : ModelNode → List Message → List Message → ModelNode
 with_ordered n front back = record n { ordered = n.ordered ++ front; outbox = back }
@@ -61,6 +61,10 @@ with_committed n live waiting = record n {
 abbrev pub with_reply : FiniteMap nat_cmp Reply → ℕ → Option Reply → FiniteMap nat_cmp Reply
 with_reply waiting s None = waiting
 with_reply waiting s (Some r) = insert waiting s r
+
+-- a transaction ends, and a write set is sent
+abbrev pub ended_with : ModelNode → ℕ → WriteSet → Option Reply → ModelNode
+ended_with n s w o = record (send n w) { live = remove n.live s; waiting = with_reply n.waiting s o }
 
 -- ---- what holds where they are made
 -- the session has no transaction, and no answer waits for it
@@ -149,11 +153,14 @@ pub data Move (order : List Event) (given : Type 0) (n : ModelNode) : Kind → M
   -- a waiting answer is told
   Tells : (s : ℕ) → Move order given n Quiet (record n { waiting = remove n.waiting s })
   -- a transaction begins
-  Begins : (s : ℕ) → MayBegin n s → Move order given n Pays (with_begun n s)
+  Begins : (s unit : ℕ) → MayBegin n s → Move order given n Pays (with_begun n s unit)
   -- it has one more key, and a change
   Extends : (s : ℕ) (t : Live) (st : Statement) → IsRunning n s t → (given → StatementFits st)
       → refusal (met_by order n s t st) st.change ≡ None
       → Move order given n Quiet (set_live n s (extended t st))
+  -- a fragment of it is sent
+  Streams : (s : ℕ) (t : Live) → IsRunning n s t → 0 < length t.new_ops → (given → ProgressInRange n.at)
+      → Move order given n Pays (send_fragment n s t)
   -- its commit is sent
   Sends : (s : ℕ) (t : Live) → IsRunning n s t → (given → ProgressInRange n.at)
       → Move order given n Pays (send_commit n s t)
@@ -161,6 +168,11 @@ pub data Move (order : List Event) (given : Type 0) (n : ModelNode) : Kind → M
   Ends : (s : ℕ) (t : Live) (o : Option Reply) → get n.live s ≡ Some t
       → Move order given n Quiet
       (record n { live = remove n.live s; waiting = with_reply n.waiting s o })
+  -- it ends so, and a rollback takes its fragments back
+  TakesBack : (s : ℕ) (t : Live) (w : WriteSet) (o : Option Reply) → get n.live s ≡ Some t
+      → rollback_due t n.at.serial n.at.committed ≡ Some w
+      → (given → n.at.committed ≤ length order → ProgressInRange n.at)
+      → Move order given n Quiet (ended_with n s w o)
   -- it loses its locks
   Unlocks : (s : ℕ) (t : Live) (to : Status) → get n.live s ≡ Some t → Unlocked t.status to
       → Move order given n Quiet (set_live n s (with_status t to))

@@ -4,13 +4,13 @@ use Rattle.std.specs.Ordering.{nat_cmp}
 use Rattle.finite_map.proofs.Edits.{numbers, each_put, each_left}
 use Rattle.finite_map.specs.FiniteMap.{FiniteMap, get}
 use Rattle.order_event.specs.declared.event.Event.{Event}
-use Rattle.client_trx.specs.Live.{Live, with_status, passed_status}
+use Rattle.client_trx.specs.Live.{Live, with_status, passed_status, fragment_sent}
 use Rattle.client_trx.specs.declared.status.Status.TheVariants as status
 use Rattle.node_meaning.specs.Node.{ModelNode}
 use Rattle.node_meaning.specs.Client.{extended, met_by}
 use Rattle.node_meaning.specs.Facts.{IsSendable}
-use Rattle.node_meaning.proofs.ClientFacts.{sendable_first, sendable_extended, sendable_again, first, free_of}
-use Rattle.node_laws.proofs.Moves.{Kind, Move, Begins, Extends, Sends, Ends, Unlocks, Passes, Fails, Commits}
+use Rattle.node_meaning.proofs.ClientFacts.{sendable_first, sendable_extended, sendable_again, sendable_sent, first, free_of}
+use Rattle.node_laws.proofs.Moves.{Kind, Move, Begins, Extends, Streams, Sends, Ends, TakesBack, Unlocks, Passes, Fails, Commits}
 
 abbrev pub AreSendable : FiniteMap nat_cmp Live → Type 0
 AreSendable live = (s : ℕ) (t : Live) → get live s ≡ Some t → IsSendable t
@@ -18,17 +18,22 @@ AreSendable live = (s : ℕ) (t : Live) → get live s ≡ Some t → IsSendable
 pub sendable_moved : (order : List Event) (given : Type 0) → given
     → (n : ModelNode) (k : Kind) (m : ModelNode) → Move order given n k m
     → AreSendable n.live → AreSendable m.live
-sendable_moved order given g n k m (Begins s may) h =
-    each_put numbers n.live s (λ _ t. IsSendable t) h (first n.at.member n.at.begin)
-    (sendable_first n.at.member n.at.begin)
+sendable_moved order given g n k m (Begins s unit may) h =
+    each_put numbers n.live s (λ _ t. IsSendable t) h (first n.at.member n.at.begin unit)
+    (sendable_first n.at.member n.at.begin unit)
 sendable_moved order given g n k m (Extends s t st here fits free) h =
     each_put numbers n.live s (λ _ t. IsSendable t) h (extended t st)
     (sendable_extended t st (fits g) (free_of (met_by order n s t st) st.change free).room
     (h s t here.there))
+sendable_moved order given g n k m (Streams s t here change range) h =
+    each_put numbers n.live s (λ _ t. IsSendable t) h (fragment_sent t)
+    (sendable_sent t change (h s t here.there))
 sendable_moved order given g n k m (Sends s t here range) h =
     each_put numbers n.live s (λ _ t. IsSendable t) h (with_status t status.CommitSent)
     (sendable_again t status.CommitSent (h s t here.there))
 sendable_moved order given g n k m (Ends s t o there) h =
+    each_left numbers n.live s (λ _ t. IsSendable t) h
+sendable_moved order given g n k m (TakesBack s t w o there due range) h =
     each_left numbers n.live s (λ _ t. IsSendable t) h
 sendable_moved order given g n k m (Unlocks s t to there unlocked) h =
     each_put numbers n.live s (λ _ t. IsSendable t) h (with_status t to)

@@ -1,6 +1,6 @@
 -- What is pending stays in line with the live transactions.
-use Rattle.std.proofs.Common.{◌≡◌, ℕ, ◌+◌, ◌<◌, Bool, true, false, cond, List, [], ◌∷◌, ◌++◌, length, map, Option, None, Some, refl, ap, sym, subst, ◌∙◌, arith, append_assoc, eq-eqb, true≢false}
-use Rattle.std.specs.Prelude.{◌==◌, slice_get}
+use Rattle.std.proofs.Common.{◌≡◌, ℕ, ◌+◌, ◌≤◌, ◌<◌, Bool, true, false, cond, List, [], ◌∷◌, ◌++◌, length, map, Option, None, Some, refl, ap, sym, subst, ◌∙◌, arith, append_assoc, eq-eqb, true≢false}
+use Rattle.std.specs.Prelude.{◌==◌, ◌&&◌, nat_lt, slice_get}
 use Rattle.std.specs.List.{cons_option}
 use Rattle.std.specs.Ordering.{nat_cmp, eq_by_cmp}
 use Rattle.std.proofs.lemmas.List.{map-append}
@@ -19,7 +19,7 @@ use Rattle.write_set.specs.Rules.{row_parts}
 use Rattle.wsrep_base.specs.declared.verdict.Verdict.TheVariants as verdict
 use Rattle.cert_meaning.specs.Fold.{after, state_at}
 use Rattle.cert_meaning.proofs.FoldLaws.{state_at-next}
-use Rattle.client_trx.specs.Live.{Live, with_status, passed_status, commit_of}
+use Rattle.client_trx.specs.Live.{Live, with_status, passed_status, is_uncommitted, commit_of, fragment_of, fragment_sent, rollback_of, rollback_due}
 use Rattle.client_trx.specs.declared.status.Status.{Status}
 use Rattle.client_trx.specs.declared.status.Status.TheVariants as status
 use Rattle.node_meaning.specs.Node.{ModelNode}
@@ -28,14 +28,14 @@ use Rattle.node_meaning.specs.Steps.{session_of}
 use Rattle.node_meaning.specs.Facts.{InOrder, ProgressInRange, IsSendable, sets_of, IsOurs, Gathered, IsCommitOf, HasFailed, HasPassed, Alone, One, Lost, StandsBy, IsLive, Lined, Spelled, own_body, pending, pending_in}
 use Rattle.node_meaning.proofs.EntryLaws.{entry_found, entry_missed, less_from}
 use Rattle.node_meaning.proofs.ClientFacts.{first}
-use Rattle.node_meaning.proofs.RangeLaws.{commit-decoded}
+use Rattle.node_meaning.proofs.RangeLaws.{commit-decoded, fragment-decoded, rollback-decoded}
 use Rattle.node_meaning.proofs.SentLaws.{pending-sent}
 use Rattle.node_meaning.proofs.TakeFacts.{pending_same}
 use Rattle.node_meaning.proofs.CertifyFacts.{pending_first}
 use Rattle.node_meaning.proofs.AdvanceFacts.{commits_at, stands_still, passed_by, same_begin}
-use Rattle.node_laws.proofs.Moves.{Kind, Move, Begins, Extends, Sends, Ends, Unlocks, Orders, Takes, Certifies, Passes, Fails, Advances, Commits, IsRunning, Unlocked, Sent, Passed, IsJudged, verdict_next, MayCertify, LeavesQueue, with_certified, with_taken}
+use Rattle.node_laws.proofs.Moves.{Kind, Move, Begins, Extends, Streams, Sends, Ends, TakesBack, Unlocks, Orders, Takes, Certifies, Passes, Fails, Advances, Commits, IsRunning, Unlocked, Sent, Passed, IsJudged, verdict_next, MayCertify, LeavesQueue, with_certified, with_taken}
 use Rattle.node_laws.proofs.SetLists.{equal, unequal, all_each, of-own, of-new}
-use Rattle.node_laws.proofs.Lining.{replaced_here, ended_here, sent, begun}
+use Rattle.node_laws.proofs.Lining.{replaced_here, ended_here, sent, sent_last, begun}
 use Rattle.node_laws.proofs.Gathering.{Fewer, gathered_begun, gathered_added}
 use Rattle.node_laws.proofs.Heads.{live_later, fewer_view, fewer_report, fewer_foreign, IsSplit, Split, split, head_alien, head_waits, head_ended, head_failed, head_passed}
 
@@ -121,6 +121,16 @@ module _ (order : List Event) (m b serial p c : ℕ) (live : FiniteMap nat_cmp L
       begins = λ o q u v one other. l.begins o q u v (left numbers live s o u one).there
           (left numbers live s q v other).there;
     }
+
+-- ---- the rollback that is due
+due_is : (t : Live) (serial seen : ℕ) (w : WriteSet) → rollback_due t serial seen ≡ Some w
+    → rollback_of t serial seen ≡ w
+due_is t serial seen w due = by (is_uncommitted t.status && nat_lt 0 t.sent) due
+  where
+    by : (b : Bool) → cond b (Some (rollback_of t serial seen)) None ≡ Some w
+        → rollback_of t serial seen ≡ w
+    by true is = same_Some (rollback_of t serial seen) w is
+    by false is = cc
 
 -- ---- the moves
 module _ (order : List Event) (n : ModelNode)
@@ -227,6 +237,33 @@ module _ (order : List Event) (n : ModelNode)
     abbrev w : WriteSet
     w = commit_of t n.at.serial p
 
+    abbrev part : WriteSet
+    part = fragment_of t n.at.serial p
+
+    fragment_is_sent : IsSendable t → ProgressInRange n.at
+        → Spelled order n.at.member n.at.begin (n.at.serial + 1) p c
+        (insert n.live s (fragment_sent t)) (pending_with (spelling part))
+    fragment_is_sent can range =
+        let was = h.lined.each s t here.there in
+        let g = idle.1 in
+        more_sent part (fragment-decoded n.at t range was.of_member was.begun can) _
+        (sent order n.at.member n.at.begin n.at.serial p c n.live h.sets h.lined s t here.there part
+        refl refl
+        (record { of_member = was.of_member; begun = was.begun; seen = omega arith })
+        (fragment_sent t) refl
+        (record {
+          of_member = was.of_member;
+          begun = was.begun;
+          stands = One part (of-own t.trx.begin h.sets part refl idle.0)
+              (record {
+                number = refl;
+                flags = refl;
+                no_keys = refl;
+                no_ops = refl;
+                gathered = record { first = g.first; whole = g.whole };
+              });
+        }))
+
     commit_sent : IsSendable t → ProgressInRange n.at
         → Spelled order n.at.member n.at.begin (n.at.serial + 1) p c
         (insert n.live s (with_status t status.CommitSent)) (pending_with (spelling w))
@@ -250,19 +287,34 @@ module _ (order : List Event) (n : ModelNode)
         }))
 
   -- ---- a transaction begins
-  first_begun : (s : ℕ)
+  first_begun : (s unit : ℕ)
       → Lined order n.at.member (n.at.begin + 1) n.at.serial p c
-      (insert n.live s (first n.at.member n.at.begin)) h.sets
-  first_begun s =
+      (insert n.live s (first n.at.member n.at.begin unit)) h.sets
+  first_begun s unit =
       begun order n.at.member n.at.begin n.at.serial p c n.live h.sets h.lined s
-      (first n.at.member n.at.begin) refl (record {
+      (first n.at.member n.at.begin unit) refl (record {
         of_member = refl;
         begun = omega arith;
         stands = (
           of-new n.at.member n.at.begin p h.sets h.lined.ours,
-          gathered_begun (state_at order c) (record { member = n.at.member; begin = n.at.begin }) 0,
+          gathered_begun (state_at order c) (record { member = n.at.member; begin = n.at.begin }) unit,
         );
       })
+
+  -- ---- a transaction ends, and a rollback takes its fragments back
+  module _ (s : ℕ) (t : Live) (there : get n.live s ≡ Some t) where
+    abbrev back : WriteSet
+    back = rollback_of t n.at.serial p
+
+    rollback_is_sent : IsSendable t → ProgressInRange n.at
+        → Spelled order n.at.member n.at.begin (n.at.serial + 1) p c
+        (remove n.live s) (pending_with (spelling back))
+    rollback_is_sent can range =
+        let was = h.lined.each s t there in
+        more_sent back (rollback-decoded n.at t range was.of_member was.begun can) _
+        (sent_last order n.at.member n.at.begin n.at.serial p c n.live h.sets h.lined s t there back
+        refl refl
+        (record { of_member = was.of_member; begun = was.begun; seen = omega arith }))
 
   -- ---- the next event is certified
   module _ (more : c == n.at.taken ≡ false) where
@@ -408,12 +460,18 @@ module _ (order : List Event) (n : ModelNode)
   pub sent_moved : (given : Type 0) → given
       → ((s : ℕ) (t : Live) → get n.live s ≡ Some t → IsSendable t)
       → (k : Kind) (m : ModelNode) → Move order given n k m → IsSpelled order m
-  sent_moved given g can k m (Begins s may) = same_sets (n.at.begin + 1) _ (first_begun s)
+  sent_moved given g can k m (Begins s unit may) = same_sets (n.at.begin + 1) _ (first_begun s unit)
   sent_moved given g can k m (Extends s t st here fits free) =
       same_sets n.at.begin _ (more_gathered s t here st)
+  sent_moved given g can k m (Streams s t here change range) =
+      fragment_is_sent s t here (can s t here.there) (range g)
   sent_moved given g can k m (Sends s t here range) =
       commit_sent s t here (can s t here.there) (range g)
   sent_moved given g can k m (Ends s t o there) = same_sets n.at.begin _ (ended s t there)
+  sent_moved given g can k m (TakesBack s t w o there due range) =
+      let inside : p ≤ length order = omega (arith, places.committed_fits, places.certified_fits, places.taken_fits) in
+      subst (λ w. Spelled order n.at.member n.at.begin (n.at.serial + 1) p c (remove n.live s) (pending_with (spelling w)))
+      (due_is t n.at.serial p w due) (rollback_is_sent s t there (can s t there) (range g inside))
   sent_moved given g can k m (Unlocks s t to there can_unlock) =
       same_sets n.at.begin _ (unlocked s t there to can_unlock)
   sent_moved given g can k m (Orders front back is) = same_pending _ (orders_pending front back is)

@@ -8,7 +8,7 @@ use Rattle.node_meaning.specs.Steps.{first_sent, sent_out, take_step, certify_st
 use Rattle.node_laws.proofs.Moves.{Joint, Orders, Reaches, Here}
 use Rattle.node_laws.proofs.TakeMoves.{take_moves}
 use Rattle.node_laws.proofs.CertifyMoves.{certify_moves}
-use Rattle.node_laws.proofs.UnitMoves.{start_moves, finish_moves}
+use Rattle.node_laws.proofs.UnitMoves.{CanTakeBack, start_moves, finish_moves}
 use Rattle.node_laws.proofs.AdvanceMoves.{CanStep, advance_moves, step_moves}
 use Rattle.node_laws.proofs.Counts.{Grows, move_grows, reach_grows}
 
@@ -30,7 +30,8 @@ module _ (order : List Event) (n : ModelNode) where
   certify_grows = free _ (certify_moves order _ true n)
 
   pub start_grows : (number : ℕ) → Grows 0 n (start_step order n number).1
-  start_grows number = free _ (start_moves order _ n number)
+  start_grows number =
+      reach_grows order (CanTakeBack n) true n 0 _ (start_moves order (CanTakeBack n) n number (λ g inside. g))
 
   pub finish_grows : (number : ℕ) → Grows 0 n (finish_step n number).1
   finish_grows number = free _ (finish_moves order _ n number)

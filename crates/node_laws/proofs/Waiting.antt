@@ -9,7 +9,7 @@ use Rattle.order_event.specs.declared.event.Event.{Event}
 use Rattle.client_trx.specs.Live.{Live}
 use Rattle.node_meaning.specs.Node.{ModelNode}
 use Rattle.node_meaning.proofs.EntryLaws.{some_not_none}
-use Rattle.node_laws.proofs.Moves.{Kind, Move, Tells, Begins, Extends, Sends, Ends, Unlocks, Passes, Fails, Commits, with_reply, Reaches, kept}
+use Rattle.node_laws.proofs.Moves.{Kind, Move, Tells, Begins, Extends, Streams, Sends, Ends, TakesBack, Unlocks, Passes, Fails, Commits, with_reply, Reaches, kept}
 
 abbrev pub AreIdle : FiniteMap nat_cmp Reply → FiniteMap nat_cmp Live → Type 0
 AreIdle waiting live = (q : ℕ) (r : Reply) → get waiting q ≡ Some r → get live q ≡ None
@@ -56,10 +56,12 @@ module _ (waiting : FiniteMap nat_cmp Reply) (live : FiniteMap nat_cmp Live) (s 
 pub idle_moved : (order : List Event) (given : Type 0) (n : ModelNode) (kind : Kind) (m : ModelNode)
     → Move order given n kind m → AreIdle n.waiting n.live → AreIdle m.waiting m.live
 idle_moved order given n kind m (Tells s) h = idle_told n.waiting n.live s h
-idle_moved order given n kind m (Begins s may) h = idle_put n.waiting n.live s h _ may.told
+idle_moved order given n kind m (Begins s unit may) h = idle_put n.waiting n.live s h _ may.told
 idle_moved order given n kind m (Extends s t st here fits free) h = idle_over n.waiting n.live s h t _ here.there
+idle_moved order given n kind m (Streams s t here change range) h = idle_over n.waiting n.live s h t _ here.there
 idle_moved order given n kind m (Sends s t here range) h = idle_over n.waiting n.live s h t _ here.there
 idle_moved order given n kind m (Ends s t o there) h = idle_left n.waiting n.live s h o
+idle_moved order given n kind m (TakesBack s t w o there due range) h = idle_left n.waiting n.live s h o
 idle_moved order given n kind m (Unlocks s t to there unlocked) h = idle_over n.waiting n.live s h t _ there
 idle_moved order given n kind m (Passes s t body w judged pass) h = idle_over n.waiting n.live s h t _ judged.there
 idle_moved order given n kind m (Fails s t body w v judged came) h = idle_left n.waiting n.live s h (Some _)
