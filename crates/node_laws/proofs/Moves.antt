@@ -64,7 +64,8 @@ with_reply waiting s (Some r) = insert waiting s r
 
 -- a transaction ends, and a write set is sent
 abbrev pub ended_with : ModelNode → ℕ → WriteSet → Option Reply → ModelNode
-ended_with n s w o = record (send n w) { live = remove n.live s; waiting = with_reply n.waiting s o }
+ended_with n s w o =
+    record (send n w) { live = remove n.live s; waiting = with_reply n.waiting s o }
 
 -- ---- what holds where they are made
 -- the session has no transaction, and no answer waits for it
@@ -159,7 +160,8 @@ pub data Move (order : List Event) (given : Type 0) (n : ModelNode) : Kind → M
       → refusal (met_by order n s t st) st.change ≡ None
       → Move order given n Quiet (set_live n s (extended t st))
   -- a fragment of it is sent
-  Streams : (s : ℕ) (t : Live) → IsRunning n s t → 0 < length t.new_ops → (given → ProgressInRange n.at)
+  Streams : (s : ℕ) (t : Live) → IsRunning n s t → 0 < length t.new_ops
+      → (given → ProgressInRange n.at)
       → Move order given n Pays (send_fragment n s t)
   -- its commit is sent
   Sends : (s : ℕ) (t : Live) → IsRunning n s t → (given → ProgressInRange n.at)

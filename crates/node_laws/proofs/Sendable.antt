@@ -1,10 +1,13 @@
 -- What live transactions may send stays valid and in range.
-use Rattle.std.proofs.Common.{◌≡◌, ℕ, List, Some}
+use Rattle.std.proofs.Common.{◌≡◌, ℕ, Bool, true, false, cond, List, None, Some}
+use Rattle.std.specs.Prelude.{◌&&◌, nat_lt}
+use Rattle.std.proofs.lemmas.Option.{same_Some}
 use Rattle.std.specs.Ordering.{nat_cmp}
 use Rattle.finite_map.proofs.Edits.{numbers, each_put, each_left}
 use Rattle.finite_map.specs.FiniteMap.{FiniteMap, get}
 use Rattle.order_event.specs.declared.event.Event.{Event}
-use Rattle.client_trx.specs.Live.{Live, with_status, passed_status, fragment_sent}
+use Rattle.write_set.specs.declared.write_set.WriteSet.{WriteSet}
+use Rattle.client_trx.specs.Live.{Live, with_status, passed_status, is_uncommitted, fragment_sent, rollback_of, rollback_due}
 use Rattle.client_trx.specs.declared.status.Status.TheVariants as status
 use Rattle.node_meaning.specs.Node.{ModelNode}
 use Rattle.node_meaning.specs.Client.{extended, met_by}
@@ -46,3 +49,13 @@ sendable_moved order given g n k m (Fails s t body w v judged came) h =
 sendable_moved order given g n k m (Commits s t may there is) h =
     each_left numbers n.live s (λ _ t. IsSendable t) h
 sendable_moved order given g n k m _ h = h
+
+-- ---- the rollback that is due
+pub due_is : (t : Live) (serial seen : ℕ) (w : WriteSet) → rollback_due t serial seen ≡ Some w
+    → rollback_of t serial seen ≡ w
+due_is t serial seen w due = by (is_uncommitted t.status && nat_lt 0 t.sent) due
+  where
+    by : (b : Bool) → cond b (Some (rollback_of t serial seen)) None ≡ Some w
+        → rollback_of t serial seen ≡ w
+    by true is = same_Some (rollback_of t serial seen) w is
+    by false is = cc

@@ -1,6 +1,6 @@
 -- What is pending stays in line with the live transactions.
 use Rattle.std.proofs.Common.{◌≡◌, ℕ, ◌+◌, ◌≤◌, ◌<◌, Bool, true, false, cond, List, [], ◌∷◌, ◌++◌, length, map, Option, None, Some, refl, ap, sym, subst, ◌∙◌, arith, append_assoc, eq-eqb, true≢false}
-use Rattle.std.specs.Prelude.{◌==◌, ◌&&◌, nat_lt, slice_get}
+use Rattle.std.specs.Prelude.{◌==◌, slice_get}
 use Rattle.std.specs.List.{cons_option}
 use Rattle.std.specs.Ordering.{nat_cmp, eq_by_cmp}
 use Rattle.std.proofs.lemmas.List.{map-append}
@@ -19,7 +19,7 @@ use Rattle.write_set.specs.Rules.{row_parts}
 use Rattle.wsrep_base.specs.declared.verdict.Verdict.TheVariants as verdict
 use Rattle.cert_meaning.specs.Fold.{after, state_at}
 use Rattle.cert_meaning.proofs.FoldLaws.{state_at-next}
-use Rattle.client_trx.specs.Live.{Live, with_status, passed_status, is_uncommitted, commit_of, fragment_of, fragment_sent, rollback_of, rollback_due}
+use Rattle.client_trx.specs.Live.{Live, with_status, passed_status, commit_of, fragment_of, fragment_sent, rollback_of}
 use Rattle.client_trx.specs.declared.status.Status.{Status}
 use Rattle.client_trx.specs.declared.status.Status.TheVariants as status
 use Rattle.node_meaning.specs.Node.{ModelNode}
@@ -34,6 +34,7 @@ use Rattle.node_meaning.proofs.TakeFacts.{pending_same}
 use Rattle.node_meaning.proofs.CertifyFacts.{pending_first}
 use Rattle.node_meaning.proofs.AdvanceFacts.{commits_at, stands_still, passed_by, same_begin}
 use Rattle.node_laws.proofs.Moves.{Kind, Move, Begins, Extends, Streams, Sends, Ends, TakesBack, Unlocks, Orders, Takes, Certifies, Passes, Fails, Advances, Commits, IsRunning, Unlocked, Sent, Passed, IsJudged, verdict_next, MayCertify, LeavesQueue, with_certified, with_taken}
+use Rattle.node_laws.proofs.Sendable.{due_is}
 use Rattle.node_laws.proofs.SetLists.{equal, unequal, all_each, of-own, of-new}
 use Rattle.node_laws.proofs.Lining.{replaced_here, ended_here, sent, sent_last, begun}
 use Rattle.node_laws.proofs.Gathering.{Fewer, gathered_begun, gathered_added}
@@ -121,16 +122,6 @@ module _ (order : List Event) (m b serial p c : ℕ) (live : FiniteMap nat_cmp L
       begins = λ o q u v one other. l.begins o q u v (left numbers live s o u one).there
           (left numbers live s q v other).there;
     }
-
--- ---- the rollback that is due
-due_is : (t : Live) (serial seen : ℕ) (w : WriteSet) → rollback_due t serial seen ≡ Some w
-    → rollback_of t serial seen ≡ w
-due_is t serial seen w due = by (is_uncommitted t.status && nat_lt 0 t.sent) due
-  where
-    by : (b : Bool) → cond b (Some (rollback_of t serial seen)) None ≡ Some w
-        → rollback_of t serial seen ≡ w
-    by true is = same_Some (rollback_of t serial seen) w is
-    by false is = cc
 
 -- ---- the moves
 module _ (order : List Event) (n : ModelNode)
@@ -297,7 +288,10 @@ module _ (order : List Event) (n : ModelNode)
         begun = omega arith;
         stands = (
           of-new n.at.member n.at.begin p h.sets h.lined.ours,
-          gathered_begun (state_at order c) (record { member = n.at.member; begin = n.at.begin }) unit,
+          gathered_begun (state_at order c) (record {
+            member = n.at.member;
+            begin = n.at.begin;
+          }) unit,
         );
       })
 
@@ -469,8 +463,10 @@ module _ (order : List Event) (n : ModelNode)
       commit_sent s t here (can s t here.there) (range g)
   sent_moved given g can k m (Ends s t o there) = same_sets n.at.begin _ (ended s t there)
   sent_moved given g can k m (TakesBack s t w o there due range) =
-      let inside : p ≤ length order = omega (arith, places.committed_fits, places.certified_fits, places.taken_fits) in
-      subst (λ w. Spelled order n.at.member n.at.begin (n.at.serial + 1) p c (remove n.live s) (pending_with (spelling w)))
+      let inside : p ≤ length order =
+      omega (arith, places.committed_fits, places.certified_fits, places.taken_fits) in
+      subst (λ w. Spelled order n.at.member n.at.begin (n.at.serial + 1) p c (remove n.live s)
+      (pending_with (spelling w)))
       (due_is t n.at.serial p w due) (rollback_is_sent s t there (can s t there) (range g inside))
   sent_moved given g can k m (Unlocks s t to there can_unlock) =
       same_sets n.at.begin _ (unlocked s t there to can_unlock)

@@ -31,7 +31,8 @@ module _ (order : List Event) (n : ModelNode) where
 
   pub start_grows : (number : ℕ) → Grows 0 n (start_step order n number).1
   start_grows number =
-      reach_grows order (CanTakeBack n) true n 0 _ (start_moves order (CanTakeBack n) n number (λ g inside. g))
+      reach_grows order (CanTakeBack n) true n 0 _
+      (start_moves order (CanTakeBack n) n number (λ g inside. g))
 
   pub finish_grows : (number : ℕ) → Grows 0 n (finish_step n number).1
   finish_grows number = free _ (finish_moves order _ n number)

@@ -87,7 +87,8 @@ module _ (order : List Event) (n : ModelNode) where
         let told : ModelNode = record n { waiting = remove n.waiting s } in
         let may : MayBegin told s = record { none = there; told = get-taken numbers n.waiting s } in
         beside order (with_begun told s unit) n.waiting
-        (facts_moved order (Unit {0}) tt told Pays _ (Begins s unit may) (beside order n told.waiting f))
+        (facts_moved order (Unit {0}) tt told Pays _ (Begins s unit may)
+        (beside order n told.waiting f))
     begin_keeps unit (Some t) there f = f
 
     pub statement_keeps : (o : Option Live) → get n.live s ≡ o → is_pending o ≡ false
@@ -104,7 +105,8 @@ module _ (order : List Event) (n : ModelNode) where
 
     pub rollback_keeps : (o : Option Live) → get n.live s ≡ o → ProgressInRange n.at
         → Facts order n → Facts order (rollback_call n s o).1
-    rollback_keeps o there range = reached 1 _ (rollback_moves order true n s _ o there (λ _. range))
+    rollback_keeps o there range =
+        reached 1 _ (rollback_moves order true n s _ o there (λ _. range))
 
     pub told_keeps : (waiting : Option Reply) (otherwise : Reply × ModelNode) → Facts order n
         → Facts order otherwise.1

@@ -1,4 +1,5 @@
--- Sending all rollbacks first and ending the transactions then comes to the same as killing one session after the other.
+-- Sending all rollbacks first and ending the transactions then comes to the same as killing one
+-- session after the other.
 use Rattle.std.proofs.Common.{◌≡◌, ℕ, false, List, [], ◌∷◌, Option, None, Some, inl, inr, refl, ap, sym, ◌∙◌}
 use Rattle.std.specs.Prelude.{fold}
 use Rattle.std.specs.Ordering.{nat_cmp, eq_by_cmp}
@@ -27,8 +28,10 @@ any_told n s (Ends reply, t) (Some w) = refl
 
 back_told : (n : ModelNode) (s : ℕ) (x : Outcome × Live) (u : Live)
     → taken_back (told n s x) u ≡ told (taken_back n u) s x
-back_told n s (Lives, t) u = any_told n s (Lives, t) (rollback_due u n.at.serial n.at.committed)
-back_told n s (Ends reply, t) u = any_told n s (Ends reply, t) (rollback_due u n.at.serial n.at.committed)
+back_told n s (Lives, t) u =
+    any_told n s (Lives, t) (rollback_due u n.at.serial n.at.committed)
+back_told n s (Ends reply, t) u =
+    any_told n s (Ends reply, t) (rollback_due u n.at.serial n.at.committed)
 
 session_back : (number : ℕ) (n : ModelNode) (s : ℕ) (o p : Option Live)
     → sent_rollback (ended_session number n s o) p ≡ ended_session number (sent_rollback n p) s o
@@ -37,17 +40,20 @@ session_back number n s (Some t) None = refl
 session_back number n s (Some t) (Some u) = back_told n s (killed_by number t) u
 
 -- ---- what other sessions have
-beside_told : (n : ModelNode) (s q : ℕ) (x : Outcome × Live) → eq_by_cmp nat_cmp q s ≡ false → get (told n s x).live q ≡ get n.live q
+beside_told : (n : ModelNode) (s q : ℕ) (x : Outcome × Live) → eq_by_cmp nat_cmp q s ≡ false
+    → get (told n s x).live q ≡ get n.live q
 beside_told n s q (Lives, t) differs = get-put_beside numbers n.live s t q differs
 beside_told n s q (Ends reply, t) differs = get-taken_beside numbers n.live s q differs
 
-beside_ended : (number : ℕ) (n : ModelNode) (s q : ℕ) (o : Option Live) → eq_by_cmp nat_cmp q s ≡ false
+beside_ended : (number : ℕ) (n : ModelNode) (s q : ℕ) (o : Option Live)
+    → eq_by_cmp nat_cmp q s ≡ false
     → get (ended_session number n s o).live q ≡ get n.live q
 beside_ended number n s q None differs = refl
 beside_ended number n s q (Some t) differs = beside_told n s q (killed_by number t) differs
 
 there_sent : (n : ModelNode) (s q : ℕ) → get (send_rollback n s).live q ≡ get n.live q
-there_sent n s q = ap (λ (live : FiniteMap nat_cmp Live). get live q) (live-sent_rollback n (get n.live s))
+there_sent n s q =
+    ap (λ (live : FiniteMap nat_cmp Live). get live q) (live-sent_rollback n (get n.live s))
 
 -- ---- one session, and others
 send_end : (number : ℕ) (n : ModelNode) (s q : ℕ) → eq_by_cmp nat_cmp q s ≡ false
@@ -58,21 +64,25 @@ send_end number n s q differs =
     ∙ ap (ended_session number (send_rollback n q) s) (sym (there_sent n q s))
 
 differ : (s q : ℕ) (qs : List ℕ) → (In s (q ∷ qs) → ⊥) → eq_by_cmp nat_cmp q s ≡ false
-differ s q qs none = false_from_ne_true (eq_by_cmp nat_cmp q s) (λ same. none (inl (sym (tied numbers q s same))))
+differ s q qs none =
+    false_from_ne_true (eq_by_cmp nat_cmp q s) (λ same. none (inl (sym (tied numbers q s same))))
 
 send_end_all : (number : ℕ) (s : ℕ) (others : List ℕ) (n : ModelNode) → (In s others → ⊥)
-    → fold send_rollback (end_killed number n s) others ≡ end_killed number (fold send_rollback n others) s
+    → fold send_rollback (end_killed number n s) others
+    ≡ end_killed number (fold send_rollback n others) s
 send_end_all number s [] n none = refl
 send_end_all number s (q ∷ qs) n none =
     ap (λ m. fold send_rollback m qs) (send_end number n s q (differ s q qs none))
     ∙ send_end_all number s qs (send_rollback n q) (λ later. none (inr later))
 
-kill_is : (number : ℕ) (n : ModelNode) (s : ℕ) → kill_session number n s ≡ end_killed number (send_rollback n s) s
+kill_is : (number : ℕ) (n : ModelNode) (s : ℕ)
+    → kill_session number n s ≡ end_killed number (send_rollback n s) s
 kill_is number n s = ap (ended_session number (send_rollback n s) s) (sym (there_sent n s s))
 
 -- sessions, none of them twice
 pub kills-in_order : (number : ℕ) (victims : List ℕ) (n : ModelNode) → NoTwice victims
-    → fold (kill_session number) n victims ≡ fold (end_killed number) (fold send_rollback n victims) victims
+    → fold (kill_session number) n victims
+    ≡ fold (end_killed number) (fold send_rollback n victims) victims
 kills-in_order number [] n once = refl
 kills-in_order number (v ∷ vs) n once =
     kills-in_order number vs (kill_session number n v) once.1
@@ -80,9 +90,11 @@ kills-in_order number (v ∷ vs) n once =
     ∙ ap (λ m. fold (end_killed number) m vs) (send_end_all number v vs (send_rollback n v) once.0)
 
 -- those whose locks touch a unit's keys
-pub kills-touching : (number : ℕ) (live : FiniteMap nat_cmp Live) (units : FiniteMap nat_cmp ApplyUnit) (keys : Keys) (n : ModelNode)
+pub kills-touching : (number : ℕ) (live : FiniteMap nat_cmp Live)
+    (units : FiniteMap nat_cmp ApplyUnit) (keys : Keys) (n : ModelNode)
     → fold (kill_session number) n (touching_sessions (locks_of live units) keys)
     ≡ fold (end_killed number) (fold send_rollback n (touching_sessions (locks_of live units) keys))
     (touching_sessions (locks_of live units) keys)
 kills-touching number live units keys n =
-    kills-in_order number (touching_sessions (locks_of live units) keys) n (touching-no_twice (locks_of live units) keys)
+    kills-in_order number (touching_sessions (locks_of live units) keys) n
+    (touching-no_twice (locks_of live units) keys)
