@@ -16,3 +16,4 @@ pub mod CoveredLaws
 pub mod OpenLaws
 pub mod SeenLaws
 pub mod FloorLaws
+pub mod ChangeLaws

@@ -8,3 +8,4 @@ pub mod Roomy
 pub mod Extremes
 pub mod Whole
 pub mod Parts
+pub mod Changes
