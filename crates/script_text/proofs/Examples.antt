@@ -9,7 +9,7 @@ use Rattle.script_text.specs.declared.line.ScriptCause.TheVariants as cause
 use Rattle.uuid.proofs.OnLiterals.{uuid_on_literals}
 use Rattle.wsrep_base.specs.StateId.{id_of}
 use Rattle.script_text.specs.Words.{text_of, words_of}
-use Rattle.script_text.specs.Fields.{number_of, counting_of, node_of, name_of, row_id_of, only_row, numbers_of, values_of, pair_of, pairs_of, change_of}
+use Rattle.script_text.specs.Fields.{number_of, counting_of, node_of, name_of, row_id_of, only_number, only_row, numbers_of, values_of, pair_of, pairs_of, change_of}
 use Rattle.script_text.specs.Grammar.{insert_of, update_of, call_of, verb_of, who_of, act_of, step_of, is_passed_over, said_of, line_of, header_at, header_of, first_of}
 
 -- the row `a` of the table `acct`
@@ -65,6 +65,42 @@ grammar_before_limits = refl
 no_third_node : line_of 2 (codes "3 take") ≡ Err cause.Grammar
 unfolding text_of words_of number_of counting_of node_of verb_of who_of act_of step_of is_passed_over said_of line_of
 no_third_node = refl
+
+begins : line_of 1 (codes "1.1 begin") ≡ Ok (line.Step (record { node = 1; act = act.Client 1 (call.Begin 0) }))
+unfolding text_of words_of number_of counting_of node_of only_number call_of who_of act_of step_of is_passed_over said_of line_of
+begins = refl
+
+unit_of_one : line_of 1 (codes "1.1 begin stream 1\n") ≡ Ok (line.Step (record { node = 1; act = act.Client 1 (call.Begin 1) }))
+unfolding text_of words_of number_of counting_of node_of only_number call_of who_of act_of step_of is_passed_over said_of line_of
+unit_of_one = refl
+
+unit_of_none : line_of 1 (codes "1.1 begin stream 00") ≡ Ok (line.Step (record { node = 1; act = act.Client 1 (call.Begin 0) }))
+unfolding text_of words_of number_of counting_of node_of only_number call_of who_of act_of step_of is_passed_over said_of line_of
+unit_of_none = refl
+
+greatest_unit : line_of 1 (codes "1.1 begin stream 1000000") ≡ Ok (line.Step (record { node = 1; act = act.Client 1 (call.Begin 1_000_000) }))
+unfolding text_of words_of number_of counting_of node_of only_number call_of who_of act_of step_of is_passed_over said_of line_of
+greatest_unit = refl
+
+unit_too_great : line_of 1 (codes "1.1 begin stream 1000001") ≡ Err cause.Limit
+unfolding text_of words_of number_of counting_of node_of only_number call_of who_of act_of step_of is_passed_over said_of line_of
+unit_too_great = refl
+
+unit_missing : line_of 1 (codes "1.1 begin stream") ≡ Err cause.Grammar
+unfolding text_of words_of number_of counting_of node_of only_number call_of who_of act_of step_of is_passed_over said_of line_of
+unit_missing = refl
+
+unit_no_number : line_of 1 (codes "1.1 begin stream x") ≡ Err cause.Grammar
+unfolding text_of words_of number_of counting_of node_of only_number call_of who_of act_of step_of is_passed_over said_of line_of
+unit_no_number = refl
+
+two_units : line_of 1 (codes "1.1 begin stream 1000001 1") ≡ Err cause.Grammar
+unfolding text_of words_of number_of counting_of node_of only_number call_of who_of act_of step_of is_passed_over said_of line_of
+two_units = refl
+
+unit_without_its_word : line_of 1 (codes "1.1 begin 1") ≡ Err cause.Grammar
+unfolding text_of words_of number_of counting_of node_of only_number call_of who_of act_of step_of is_passed_over said_of line_of
+unit_without_its_word = refl
 
 empty_line : line_of 1 [] ≡ Ok line.Blank
 unfolding text_of words_of is_passed_over said_of line_of

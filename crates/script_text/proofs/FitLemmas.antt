@@ -19,7 +19,7 @@ use Rattle.script_text.specs.declared.line.Header.{Header}
 use Rattle.script_text.specs.declared.line.Line.TheVariants as line
 use Rattle.script_text.specs.Words.{text_of, words_of, ◌is◌, ◌>>=◌, alone}
 use Rattle.script_text.specs.Fields.{only_number, number_of, counting_of, node_of, only_if, is_name, name_of, is_table_letter, is_row_letter, row_id_of, only_row, values_of, pairs_of, are_columns, rises, columns_of, value_at, change_of}
-use Rattle.script_text.specs.Grammar.{insert_of, update_of, call_of, verb_of, who_at, who_of, act_of, step_of, is_passed_over, said_of, is_short, act_is_within, step_is_within, line_is_within, judged, line_of, header_at, header_is_within, header_of, first_at, first_is_within, first_of}
+use Rattle.script_text.specs.Grammar.{begin_of, insert_of, update_of, call_of, verb_of, who_at, who_of, act_of, step_of, is_passed_over, said_of, is_short, call_is_within, act_is_within, step_is_within, line_is_within, judged, line_of, header_at, header_is_within, header_of, first_at, first_is_within, first_of}
 use Rattle.script_text.specs.Steps.{HasSession, IsStepOf, IsHeader}
 
 both : (a b : Bool) → a && b ≡ true → (a ≡ true) × (b ≡ true)
@@ -132,6 +132,13 @@ change_names words =
 abbrev Asked : Call → Type 0
 Asked c = IsTrue (call_fits c)
 
+begin_fits : (words : List (List ℕ)) → IfSome (begin_of words) Asked
+begin_fits [] = refl
+begin_fits (word ∷ words) =
+    chosen Asked (word is "stream") _ None
+    (mapped (λ n. Unit {0}) Asked (only_number words) call.Begin (anything (only_number words)) (λ n any. refl))
+    tt
+
 insert_fits : (words : List (List ℕ)) → IfSome (insert_of words) Asked
 unfolding insert_of
 insert_fits [] = tt
@@ -153,7 +160,7 @@ call_fits_here : (words : List (List ℕ)) → IfSome (call_of words) Asked
 unfolding call_of
 call_fits_here [] = tt
 call_fits_here (verb ∷ words) =
-    chosen Asked (verb is "begin") _ _ (alone_is Asked (call.Begin 0) words refl)
+    chosen Asked (verb is "begin") _ _ (begin_fits words)
     (chosen Asked (verb is "insert") _ _ (insert_fits words)
     (chosen Asked (verb is "update") _ _ (update_fits words)
     (chosen Asked (verb is "delete") _ _ (of_row call.Delete (λ id has. has))
@@ -273,7 +280,7 @@ acted_fits (act.Client session c) acted = acted.0
 acted_fits other acted = acted.0
 
 acted_session : (a : Act) → Acted a → act_is_within a ≡ true → HasSession a
-acted_session (act.Client session c) acted e = (acted.1, is_at_least session 32 e)
+acted_session (act.Client session c) acted e = (acted.1, is_at_least session 32 (both _ (call_is_within c) e).0)
 acted_session other acted e = tt
 
 -- the names of a step that a line says have their form

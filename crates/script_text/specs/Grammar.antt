@@ -15,6 +15,13 @@ use Rattle.script_text.specs.declared.line.ScriptCause.TheVariants as cause
 use Rattle.script_text.specs.Words.{without_newline, text_of, words_of, ◌is◌, ◌>>=◌, alone}
 use Rattle.script_text.specs.Fields.{number_of, only_number, counting_of, node_of, row_id_of, only_row, values_of, change_of}
 
+-- `begin`, which sends no fragments, or `begin stream Q`, which sends one after each Q changes
+abbrev pub begin_of : List (List ℕ) → Option Call
+begin_of [] = Some (call.Begin 0)
+begin_of (word ∷ words) =
+    if word is "stream" then option_map call.Begin (only_number words)
+    else None
+
 -- `T R V..`
 unfoldable pub insert_of : List (List ℕ) → Option Call
 insert_of [] = None
@@ -37,7 +44,7 @@ update_of (table ∷ row ∷ words) = do
 unfoldable pub call_of : List (List ℕ) → Option Call
 call_of [] = None
 call_of (verb ∷ words) =
-    if verb is "begin" then alone (call.Begin 0) words
+    if verb is "begin" then begin_of words
     else if verb is "insert" then insert_of words
     else if verb is "update" then update_of words
     else if verb is "delete" then option_map call.Delete (only_row words)
@@ -114,8 +121,12 @@ abbrev pub is_short : List ℕ → Bool
 is_short line = nat_le (length (without_newline line)) 512
 
 -- the limits of a step
+abbrev pub call_is_within : Call → Bool
+call_is_within (call.Begin unit) = nat_le unit 1_000_000
+call_is_within other = true
+
 abbrev pub act_is_within : Act → Bool
-act_is_within (act.Client session call) = nat_le session 32
+act_is_within (act.Client session asked) = nat_le session 32 && call_is_within asked
 act_is_within other = true
 
 abbrev pub step_is_within : Step → Bool

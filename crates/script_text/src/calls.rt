@@ -1,7 +1,7 @@
 ghost use Rattle.std.specs.Prelude.{◌≡◌};
-ghost use Rattle.script_text.specs.Grammar.{call_of, insert_of, update_of};
+ghost use Rattle.script_text.specs.Grammar.{call_of, begin_of, insert_of, update_of};
 
-use crate::fields::{change, only_row, row_id, values};
+use crate::fields::{change, only_number, only_row, row_id, values};
 use crate::words::{Words, alone, is};
 use row_model::Call;
 
@@ -12,7 +12,7 @@ pub(crate) fn call(words: &mut Words) -> Option<Call>
 {
     let verb = words.next()?;
     if is(verb, b"begin") {
-        alone(Call::Begin(0), words)
+        begin(words)
     } else if is(verb, b"insert") {
         insert(words)
     } else if is(verb, b"update") {
@@ -31,6 +31,17 @@ pub(crate) fn call(words: &mut Words) -> Option<Call>
         alone(Call::Poll, words)
     } else {
         None
+    }
+}
+
+// Whether fragments are sent, and after how many changes.
+fn begin(words: &mut Words) -> Option<Call>
+    ensures { result ≡ begin_of words.old }
+{
+    match words.next() {
+        None => Some(Call::Begin(0)),
+        Some(word) if is(word, b"stream") => Some(Call::Begin(only_number(words)?)),
+        Some(_) => None,
     }
 }
 

@@ -1,5 +1,5 @@
 ghost use Rattle.std.specs.Prelude.{◌≡◌, Some, option_map};
-ghost use Rattle.script_text.specs.Grammar.{verb_of, who_of, step_of, act_is_within, step_is_within, judged};
+ghost use Rattle.script_text.specs.Grammar.{verb_of, who_of, step_of, call_is_within, act_is_within, step_is_within, judged};
 ghost use Rattle.script_text.specs.Written.{step_written};
 
 use crate::calls::call;
@@ -12,7 +12,10 @@ use row_model::Call;
 // The most sessions of a node.
 const SESSIONS_MAX: u8 = 32;
 
-// A step as it is written. The number of its session may be too great.
+// The most changes after which a fragment is sent.
+const STREAM_MAX: u64 = 1_000_000;
+
+// A step as it is written. Its numbers may be too great.
 #[derive(Clone, Copy)]
 enum WrittenStep {
     Session(u8, u64, Call),
@@ -69,7 +72,16 @@ fn is_within(act: &Act) -> bool
     ensures { result ≡ act_is_within act.now }
 {
     match act {
-        Act::Client(session, _) => *session <= SESSIONS_MAX,
+        Act::Client(session, call) => *session <= SESSIONS_MAX && call_is_within(call),
+        _ => true,
+    }
+}
+
+fn call_is_within(call: &Call) -> bool
+    ensures { result ≡ call_is_within call.now }
+{
+    match call {
+        Call::Begin(unit) => *unit <= STREAM_MAX,
         _ => true,
     }
 }
