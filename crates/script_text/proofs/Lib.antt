@@ -1,5 +1,8 @@
 mod ChangeLemmas
 mod Examples
+mod LoadExamples
+mod LoadLemmas
+pub mod LoadLaws
 mod NumberLemmas
 mod ValueLemmas
 mod WordLemmas

@@ -5,9 +5,12 @@ mod calls;
 mod fields;
 mod header;
 mod line;
+mod load;
 mod parse;
+mod rounds;
 mod steps;
 mod words;
 
 pub use line::{Header, Line, ScriptCause};
+pub use load::LoadSteps;
 pub use parse::{parse_first, parse_header, parse_line};
