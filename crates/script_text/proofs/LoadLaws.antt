@@ -1,5 +1,5 @@
 -- Each step of `load` is one that a cluster of three nodes can make.
-use Rattle.std.proofs.Common.{◌≡◌, ℕ, zero, suc, ◌+◌, ◌%◌, ◌^◌, ◌<◌, ◌≤◌, Bool, true, false, cond, List, [], ◌∷◌, ◌++◌, map, refl, ◌∙◌, arith}
+use Rattle.std.proofs.Common.{◌≡◌, length, ℕ, zero, suc, ◌+◌, ◌%◌, ◌^◌, ◌<◌, ◌≤◌, Bool, true, false, cond, List, [], ◌∷◌, ◌++◌, map, refl, ◌∙◌, arith, length-append, ◌*◌}
 use Rattle.std.specs.Prelude.{◌==◌, ◌&&◌, IsTrue, codes, decimal}
 use Rattle.std.specs.List.{AllByRecursion, list_all, range_with_len}
 use Rattle.std.proofs.lemmas.Bool.Decides.{nat_tests}
@@ -150,3 +150,38 @@ pub load_runs : (seed count : ℕ) → AllByRecursion (IsRunnable 3) (load_steps
 load_runs seed count =
     both_run (opening ++ rounds 1 seed count) closing
     (both_run opening (rounds 1 seed count) opening_runs (rounds_run 1 seed count)) closing_runs
+
+-- how many steps there are
+
+report_count : (b : Bool) → length (cond b (each_does act.Report) []) ≤ 3
+report_count true = omega arith
+report_count false = omega arith
+
+round_length : (r : Round) → length (round_steps r) ≤ 9
+round_length r = omega (arith, report_count (r.number % 16 == 0))
+
+rounds_length : (i x left : ℕ) → length (rounds i x left) ≤ 9 * left
+unfolding rounds
+rounds_length i x zero = omega arith
+rounds_length i x (suc left) =
+    omega (
+      arith,
+      length-append (round_steps (round_of i x)) (rounds (i + 1) (number_at 6 x) left),
+      round_length (round_of i x),
+      rounds_length (i + 1) (number_at 6 x) left,
+    )
+
+opening_length : length opening ≡ 73
+unfolding opening
+opening_length = refl
+
+-- a round has at most nine steps
+pub load_length : (seed count : ℕ) → length (load_steps seed count) ≤ 79 + 9 * count
+load_length seed count =
+    omega (
+      arith,
+      length-append (opening ++ rounds 1 seed count) closing,
+      length-append opening (rounds 1 seed count),
+      opening_length,
+      rounds_length 1 seed count,
+    )
