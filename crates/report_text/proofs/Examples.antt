@@ -1,5 +1,5 @@
 -- The texts of worked answers.
-use Rattle.std.proofs.Common.{◌≡◌, [], ◌∷◌, refl}
+use Rattle.std.proofs.Common.{◌≡◌, refl}
 use Rattle.std.specs.Prelude.{codes}
 use Rattle.std.specs.Fmt.{digits}
 use Rattle.wsrep_base.specs.declared.verdict.Verdict.TheVariants as verdict

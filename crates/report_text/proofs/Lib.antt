@@ -1,1 +1,3 @@
+pub mod CountLemmas
 mod Examples
+mod LoadExamples

@@ -2,9 +2,11 @@
 #![tactic(auto)]
 
 mod answers;
+mod load;
 mod nodes;
 mod parts;
 mod replies;
 
 pub use answers::put_answer;
+pub use load::{LoadCounts, put_counts, put_sum};
 pub use nodes::put_node;
