@@ -4,6 +4,7 @@ use Rattle.std.specs.Prelude.{codes, Result}
 use Rattle.std.specs.Fmt.{digits}
 use Rattle.uuid.proofs.OnLiterals.{uuid_on_literals}
 use Rattle.wsrep_base.specs.StateId.{id_of}
+use Rattle.row_model.specs.declared.calls.Call.TheVariants as call
 use Rattle.order_event.specs.declared.step.Act.TheVariants as act
 use Rattle.order_event.specs.declared.step.Step.{Step}
 use Rattle.script_text.specs.declared.line.Line.{Line}
@@ -12,7 +13,7 @@ use Rattle.script_text.specs.declared.line.ScriptCause.{ScriptCause}
 use Rattle.script_text.specs.Words.{text_of, words_of}
 use Rattle.script_text.specs.Fields.{number_of, counting_of, node_of, name_of, row_id_of, only_number, numbers_of, values_of, pair_of, pairs_of, change_of}
 use Rattle.script_text.specs.Grammar.{insert_of, update_of, call_of, verb_of, who_of, act_of, step_of, is_passed_over, said_of, line_of, header_at, header_of}
-use Rattle.script_text.specs.Load.{opening, rounds, next_number, drawn, each_does, load_header, load_steps}
+use Rattle.script_text.specs.Load.{opening, rounds, next_number, drawn, asks, does, set_to, each_does, load_header, load_steps}
 
 -- what lines say
 abbrev say : List (List ℕ) → List (Result Line ScriptCause)
@@ -76,21 +77,16 @@ two_rounds : say (
 unfolding opening rounds next_number drawn digits text_of words_of number_of counting_of node_of name_of row_id_of only_number numbers_of values_of pair_of pairs_of change_of insert_of update_of call_of verb_of who_of act_of step_of is_passed_over said_of line_of
 two_rounds = refl
 
-sixteenth_round : say (
-    codes "1.2 poll" ∷
-    codes "1.2 begin stream 1" ∷
-    codes "1.2 update acct r29 1=16" ∷
-    codes "1.2 update acct r2 1=16" ∷
-    codes "1.2 commit" ∷
-    codes "2 drain" ∷
-    []
-    ) ≡ said (take 6 (drop 163 (load_steps 7 16)))
-unfolding opening rounds next_number drawn digits text_of words_of number_of counting_of node_of name_of row_id_of only_number numbers_of values_of pair_of pairs_of change_of insert_of update_of call_of verb_of who_of act_of step_of is_passed_over said_of line_of
-sixteenth_round = refl
-
-reports_of_the_sixteenth : take 3 (drop 169 (load_steps 7 16)) ≡ each_does act.Report
+sixteenth_round : take 9 (drop 163 (load_steps 7 16)) ≡
+    asks 1 2 call.Poll
+    ∷ asks 1 2 (call.Begin 1)
+    ∷ asks 1 2 (set_to 16 29)
+    ∷ asks 1 2 (set_to 16 2)
+    ∷ asks 1 2 call.Commit
+    ∷ does act.Drain 2
+    ∷ each_does act.Report
 unfolding opening rounds next_number drawn digits
-reports_of_the_sixteenth = refl
+sixteenth_round = refl
 
 lines_of_sixteen_rounds : length (load_steps 7 16) ≡ 178
 unfolding opening rounds next_number drawn digits
