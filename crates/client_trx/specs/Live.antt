@@ -154,6 +154,17 @@ fragment_flags sent = if sent == 0 then 1 else 0
 abbrev pub fragment_of : Live → ℕ → ℕ → WriteSet
 fragment_of t serial last_seen = gathered t serial last_seen (fragment_flags t.sent)
 
+-- what a statement adds makes a fragment due, by serial and last seen
+abbrev pub fragment_by : Added → Live → ℕ → ℕ → Option WriteSet
+fragment_by Done t serial last_seen = None
+fragment_by Fragment t serial last_seen = Some (fragment_of t serial last_seen)
+fragment_by TooLarge t serial last_seen = None
+
+-- the fragment that one more key, and the change where there is one, make due
+abbrev pub due_fragment : Live → Parts → Kind → Option Op → ℕ → ℕ → Option WriteSet
+due_fragment t parts kind op serial last_seen =
+    let both = add_by t parts kind op in fragment_by both.0 both.1 serial last_seen
+
 -- it can send a fragment
 abbrev pub CanSendFragment : Live → Type 0
 CanSendFragment t = (t.status ≡ Running) × (0 < length t.new_ops)

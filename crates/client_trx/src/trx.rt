@@ -39,7 +39,7 @@ impl Model for Trx {
 }
 
 impl Trx {
-    ghost use Rattle.client_trx.specs.Live.{begun, added, add_by, is_too_large, is_due, newest_of, CanSendFragment, has_locks, is_sent, is_uncommitted, with_status, set_from, commit_of, fragment_of, fragment_sent, rollback_of, rollback_due, judged_by, killed_by};
+    ghost use Rattle.client_trx.specs.Live.{begun, added, add_by, is_too_large, due_fragment, newest_of, CanSendFragment, has_locks, is_sent, is_uncommitted, with_status, set_from, commit_of, fragment_of, fragment_sent, rollback_of, rollback_due, judged_by, killed_by};
 
     /// A transaction that has done nothing yet. It sends a fragment whenever it made `unit`
     /// changes since the last one; 0 sends none.
@@ -117,14 +117,25 @@ impl Trx {
         ensures fits { OnErr result (is_too_large (added self.old parts.now kind op) ≡ false) }
         ensures due { IfOk result (λ told. told ≡ told_as.Fragment → CanSendFragment self.new) }
     {
-        if self.whole.is_over_with(parts, &op) {
-            return Ok(Added::TooLarge);
+        match self.adding(parts, &op) {
+            Added::TooLarge => Ok(Added::TooLarge),
+            told => {
+                self.extend(parts, kind, &op)?;
+                Ok(told)
+            }
         }
-        self.extend(parts, kind, &op)?;
-        if op.is_some() && self.is_due() {
-            Ok(Added::Fragment)
+    }
+
+    // What becomes of one more key and change.
+    fn adding(&self, parts: &Parts, op: &Option<Op>) -> Added
+        ensures { (kind : Kind) → result ≡ (add_by self.now parts.now kind op.now).0 }
+    {
+        if self.whole.is_over_with(parts, op) {
+            Added::TooLarge
+        } else if op.is_some() && self.unit > 0 && self.unit == self.new_count() as u64 + 1 {
+            Added::Fragment
         } else {
-            Ok(Added::Done)
+            Added::Done
         }
     }
 
@@ -145,12 +156,6 @@ impl Trx {
         };
         put_last(&mut self.newest, gain);
         Ok(())
-    }
-
-    fn is_due(&self) -> bool
-        ensures { result ≡ is_due self.now }
-    {
-        self.unit > 0 && self.unit == self.new_count() as u64
     }
 
     // The number of changes since the last fragment.
@@ -205,9 +210,32 @@ impl Trx {
         Ok(set)
     }
 
-    /// The write set of the fragment that one more key and change would make due. With it a node
-    /// has all memory of a fragment before anything changes.
-    pub fn fragment_with(
+    /// The write set of the fragment that one more key and change make due; None where `add` would
+    /// not answer `Fragment`. With it a node has all memory of a fragment before anything changes.
+    pub fn due_fragment(
+        &self,
+        parts: &Parts,
+        kind: Kind,
+        op: &Option<Op>,
+        serial: u64,
+        last_seen: u64,
+    ) -> Result<Option<WriteSet>, NoMemory>
+        requires names { IsTrue (parts_fit parts.now) }
+        requires change { IfSome op.now (λ op. IsKeyOf parts.now kind op) }
+        ensures set { IfOk result (λ set. set ≡ due_fragment self.now parts.now kind op.now serial last_seen) }
+        ensures valid { IfOk result (λ set. IfSome set (λ set. IsTrue (obeys set))) }
+    {
+        match self.adding(parts, op) {
+            Added::Fragment => {
+                let set = self.fragment_with(parts, kind, op, serial, last_seen)?;
+                Ok(Some(set))
+            }
+            Added::Done | Added::TooLarge => Ok(None),
+        }
+    }
+
+    // The write set of the fragment that it would send with one more key and change.
+    fn fragment_with(
         &self,
         parts: &Parts,
         kind: Kind,
@@ -237,8 +265,25 @@ impl Trx {
         self.status = Status::FragmentSent;
     }
 
-    /// The write set of its commit, which is then sent. It carries what came since the last
-    /// fragment; with nothing, it is an END without change, which commits the fragments.
+    /// The write set of its commit. It carries what came since the last fragment; with nothing, it
+    /// is an END without change, which commits the fragments.
+    pub fn commit_set(&self, serial: u64, last_seen: u64) -> Result<WriteSet, NoMemory>
+        ensures set { IfOk result (λ set. set ≡ commit_of self.now serial last_seen) }
+        ensures valid { IfOk result (λ set. IsTrue (obeys set)) }
+    {
+        let all = self.gathered()?;
+        Ok(self.write_set(all, serial, last_seen, commit_flags(self.sent)))
+    }
+
+    /// Its commit is sent. It takes no memory.
+    pub fn send_commit(&mut self)
+        requires running { self.old.status ≡ status.Running }
+        ensures { self.new ≡ with_status self.old status.CommitSent }
+    {
+        self.status = Status::CommitSent;
+    }
+
+    /// The write set of its commit, which is then sent.
     pub fn make_commit(&mut self, serial: u64, last_seen: u64) -> Result<WriteSet, NoMemory>
         requires running { self.old.status ≡ status.Running }
         ensures set { IfOk result (λ set. set ≡ commit_of self.old serial last_seen) }
@@ -246,9 +291,8 @@ impl Trx {
         ensures ok { OnOk result (self.new ≡ with_status self.old status.CommitSent) }
         ensures err { OnErr result (self.new ≡ self.old) }
     {
-        let all = self.gathered()?;
-        let set = self.write_set(all, serial, last_seen, commit_flags(self.sent));
-        self.status = Status::CommitSent;
+        let set = self.commit_set(serial, last_seen)?;
+        self.send_commit();
         Ok(set)
     }
 
