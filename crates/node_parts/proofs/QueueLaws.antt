@@ -1,7 +1,8 @@
 -- The messages of a queue: one more is ordered, and the first of a kind is found and taken.
-use Rattle.std.proofs.Common.{◌≡◌, ℕ, zero, suc, ◌+◌, ◌-◌, ◌<◌, ◌≤◌, Bool, true, false, cond, List, [], ◌∷◌, ◌++◌, length, get_or, take, drop, Option, Some, None, refl, sym, ap, subst, ◌∙◌, arith, length-drop}
+use Rattle.std.proofs.Common.{◌≡◌, ℕ, zero, suc, ◌+◌, ◌-◌, ◌<◌, ◌≤◌, Bool, true, false, cond, List, [], ◌∷◌, ◌++◌, length, get_or, take, drop, Option, Some, None, refl, sym, ap, subst, ◌∙◌, arith, length-drop, length-append}
 use Rattle.std.proofs.lemmas.List.{take_more, drop_more, drop_all, length-take-le}
 use Rattle.std.proofs.lemmas.Option.{slice_get_past, slice_get-get_or}
+use Rattle.std.proofs.Math.Seq.{take-append_seam}
 use Rattle.std.specs.Borrow.{Bor}
 use Rattle.std.specs.Slice.{IsItemAt}
 use Rattle.std.specs.Option.{option_map, unwrap_or, option_copied}
@@ -11,7 +12,7 @@ use Rattle.std.specs.List.{find, slice_get, remove}
 use Rattle.order_event.specs.declared.event.Message.{Message}
 use Rattle.node_meaning.specs.Steps.{without_first}
 use Rattle.node_parts.specs.Kinds.{place}
-use Rattle.node_parts.specs.Queue.{Queued, moved, taken}
+use Rattle.node_parts.specs.Queue.{Queued, queued, without_newest, moved, taken}
 
 none_some : (k : ℕ) → None ≡ Some k → ⊥
 none_some k e = true≢false (sym (ap is_some e))
@@ -29,6 +30,18 @@ head_or d (m ∷ ms) = m
 abbrev tail_of : List Message → List Message
 tail_of [] = []
 tail_of (m ∷ ms) = ms
+
+take_less : (l : List Message) (n k : ℕ) → n ≤ k → take n (take k l) ≡ take n l
+take_less l zero k h = refl
+take_less l (suc n) zero h = absurd (omega (arith, h))
+take_less [] (suc n) (suc k) h = refl
+take_less (m ∷ ms) (suc n) (suc k) h = ap (λ l. m ∷ l) (take_less ms n k (omega (arith, h)))
+
+drop_less : (l : List Message) (n k : ℕ) → drop n (take k l) ≡ take (k - n) (drop n l)
+drop_less l zero k = refl
+drop_less l (suc n) zero = refl
+drop_less [] (suc n) (suc k) = refl
+drop_less (m ∷ ms) (suc n) (suc k) = drop_less ms n k
 
 longer : (messages : List Message) (n : ℕ) → 0 < length (drop n messages) → n < length messages
 longer messages n some = omega (arith, some, length-drop n messages)
@@ -51,6 +64,24 @@ moved_one messages n q is some =
     let out : drop n messages ≡ q.outbox = ap (λ (p : Queued). p.outbox) is in
     moved_by messages n q.outbox out some
     ∙ ap (λ (l : List Message). moved (record { ordered = l; outbox = q.outbox }) q.outbox) (ap (λ (p : Queued). p.ordered) is)
+
+-- the newest message is taken back
+pub newest_left : (messages rest : List Message) (n : ℕ) (q : Queued) → queue_of messages n ≡ q → n ≤ length messages
+    → rest ≡ take (length messages - 1) messages → 0 < length q.outbox → queue_of rest n ≡ without_newest q
+newest_left messages rest n q is few rest_is some =
+    let out : drop n messages ≡ q.outbox = ap (λ (p : Queued). p.outbox) is in
+    let within : n < length messages = longer messages n (subst (λ l. 0 < length l) (sym out) some) in
+    let left : take n rest ≡ take n messages = ap (take n) rest_is ∙ take_less messages n (length messages - 1) (omega (arith, within)) in
+    let waits : drop n rest ≡ take (length (drop n messages) - 1) (drop n messages) =
+    ap (drop n) rest_is ∙ drop_less messages n (length messages - 1)
+    ∙ ap (λ k. take k (drop n messages)) (omega (arith, within, length-drop n messages)) in
+    (λ i. record { ordered = left i; outbox = waits i }) ∙ ap without_newest is
+
+-- to take back what was just sent leaves all as it was
+pub sent_and_back : (q : Queued) (m : Message) → without_newest (queued q m) ≡ q
+sent_and_back q m =
+    let one : length (q.outbox ++ m ∷ []) - 1 ≡ length q.outbox = omega (arith, length-append q.outbox (m ∷ [])) in
+    λ i. record q { outbox = (ap (λ k. take k (q.outbox ++ m ∷ [])) one ∙ take-append_seam q.outbox (m ∷ [])) i }
 
 -- ---- where the first of a kind stands
 module _ (test : Message → Bool) where

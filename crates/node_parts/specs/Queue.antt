@@ -1,5 +1,5 @@
 -- what a node sent: the messages that are ordered and not taken, and those that are not ordered
-use Rattle.std.specs.Prelude.{Bool, List, [], ◌∷◌, ◌++◌, Option, Some, None}
+use Rattle.std.specs.Prelude.{◌-◌, Bool, List, [], ◌∷◌, ◌++◌, length, take, Option, Some, None}
 use Rattle.order_event.specs.declared.event.Message.{Message}
 use Rattle.node_meaning.specs.Steps.{without_first}
 
@@ -19,6 +19,10 @@ oldest (m ∷ ms) = Some m
 -- one more message waits to be ordered
 abbrev pub queued : Queued → Message → Queued
 queued q m = record q { outbox = q.outbox ++ m ∷ [] }
+
+-- the newest message that waits is taken back
+abbrev pub without_newest : Queued → Queued
+without_newest q = record q { outbox = take (length q.outbox - 1) q.outbox }
 
 -- the oldest message that waits counts as ordered
 abbrev pub moved : Queued → List Message → Queued

@@ -39,7 +39,7 @@ impl Model for Queue {
 }
 
 impl Queue {
-    ghost use Rattle.node_parts.specs.Queue.{nothing_sent, oldest, queued, moved, taken};
+    ghost use Rattle.node_parts.specs.Queue.{nothing_sent, oldest, queued, without_newest, moved, taken};
 
     /// Nothing was sent. It takes no memory.
     pub fn new(alloc: Global) -> Queue
@@ -58,6 +58,14 @@ impl Queue {
     {
         self.messages.push_back(message)?;
         Ok(())
+    }
+
+    /// The newest message that waits to be ordered is taken back. It takes no memory.
+    pub fn take_back(&mut self)
+        requires { 0 < length self.old.outbox }
+        ensures { self.new ≡ without_newest self.old }
+    {
+        self.messages.pop_back();
     }
 
     /// The oldest message that waits to be ordered.
