@@ -1,6 +1,6 @@
 -- The messages of a queue: one more is ordered, and the first of a kind is found and taken.
 use Rattle.std.proofs.Common.{◌≡◌, ℕ, zero, suc, ◌+◌, ◌-◌, ◌<◌, ◌≤◌, Bool, true, false, cond, List, [], ◌∷◌, ◌++◌, length, get_or, take, drop, Option, Some, None, refl, sym, ap, subst, ◌∙◌, arith, length-drop, length-append}
-use Rattle.std.proofs.lemmas.List.{take_more, drop_more, drop_all, length-take-le}
+use Rattle.std.proofs.lemmas.List.{take_more, drop_more, take-take, drop-take, drop_all, length-take-le}
 use Rattle.std.proofs.lemmas.Option.{slice_get_past, slice_get-get_or}
 use Rattle.std.proofs.Math.Seq.{take-append_seam}
 use Rattle.std.specs.Borrow.{Bor}
@@ -31,18 +31,6 @@ abbrev tail_of : List Message → List Message
 tail_of [] = []
 tail_of (m ∷ ms) = ms
 
-take_less : (l : List Message) (n k : ℕ) → n ≤ k → take n (take k l) ≡ take n l
-take_less l zero k h = refl
-take_less l (suc n) zero h = absurd (omega (arith, h))
-take_less [] (suc n) (suc k) h = refl
-take_less (m ∷ ms) (suc n) (suc k) h = ap (λ l. m ∷ l) (take_less ms n k (omega (arith, h)))
-
-drop_less : (l : List Message) (n k : ℕ) → drop n (take k l) ≡ take (k - n) (drop n l)
-drop_less l zero k = refl
-drop_less l (suc n) zero = refl
-drop_less [] (suc n) (suc k) = refl
-drop_less (m ∷ ms) (suc n) (suc k) = drop_less ms n k
-
 longer : (messages : List Message) (n : ℕ) → 0 < length (drop n messages) → n < length messages
 longer messages n some = omega (arith, some, length-drop n messages)
 
@@ -71,10 +59,10 @@ pub newest_left : (messages rest : List Message) (n : ℕ) (q : Queued) → queu
 newest_left messages rest n q is few rest_is some =
     let out : drop n messages ≡ q.outbox = ap (λ (p : Queued). p.outbox) is in
     let within : n < length messages = longer messages n (subst (λ l. 0 < length l) (sym out) some) in
-    let left : take n rest ≡ take n messages = ap (take n) rest_is ∙ take_less messages n (length messages - 1) (omega (arith, within)) in
+    let left : take n rest ≡ take n messages = ap (take n) rest_is ∙ take-take n (length messages - 1) messages (omega (arith, within)) in
+    let more : length messages - 1 ≡ n + (length (drop n messages) - 1) = omega (arith, within, length-drop n messages) in
     let waits : drop n rest ≡ take (length (drop n messages) - 1) (drop n messages) =
-    ap (drop n) rest_is ∙ drop_less messages n (length messages - 1)
-    ∙ ap (λ k. take k (drop n messages)) (omega (arith, within, length-drop n messages)) in
+    ap (drop n) (rest_is ∙ ap (λ k. take k messages) more) ∙ drop-take n (length (drop n messages) - 1) messages in
     (λ i. record { ordered = left i; outbox = waits i }) ∙ ap without_newest is
 
 -- to take back what was just sent leaves all as it was
