@@ -1,8 +1,9 @@
 -- What the client calls of a node leave of it.
-use Rattle.std.proofs.Common.{◌≡◌, ◌≤◌, ◌<◌, ℕ, zero, suc, ◌+◌, true, false, cond, ◌&&◌, List, [], ◌∷◌, length, take, drop, refl, sym, ap, subst, ◌∙◌, arith, true≢false}
+use Rattle.std.proofs.Common.{◌≡◌, ◌≤◌, ◌<◌, ℕ, zero, suc, ◌+◌, Bool, true, false, cond, ◌&&◌, List, [], ◌∷◌, length, take, drop, refl, sym, ap, subst, ◌∙◌, arith, true≢false}
 use Rattle.std.proofs.Math.Dec.{eqb-suc-zero}
-use Rattle.std.specs.Prelude.{Option, Some, None, Result, Ok, Err, OnErr, is_some, not, ◌==◌, IsTrue}
+use Rattle.std.specs.Prelude.{Option, Some, None, Result, Ok, Err, OnErr, is_some, not, nat_lt, ◌==◌, IsTrue}
 use Rattle.std.specs.Ordering.{nat_cmp}
+use Rattle.finite_map.proofs.Edits.{numbers, remove-absent, insert-remove}
 use Rattle.finite_map.specs.FiniteMap.{FiniteMap, get, insert, remove, contains_key, empty, len-empty}
 use Rattle.key_sets.specs.Parts.{parts_cmp}
 use Rattle.key_sets.specs.declared.kind.Kind.{Kind}
@@ -10,24 +11,23 @@ use Rattle.row_model.specs.declared.calls.Reply.{Reply}
 use Rattle.row_model.specs.declared.calls.Reply.TheVariants as reply
 use Rattle.row_model.specs.declared.ops.Op.{Op}
 use Rattle.order_event.specs.declared.event.Event.{Event}
-use Rattle.order_event.specs.declared.event.Message.TheVariants as message
-use Rattle.write_set.specs.Spelling.{spelling}
-use Rattle.node_parts.specs.Queue.{Queued, queued}
+use Rattle.write_set.specs.declared.write_set.WriteSet.{WriteSet}
 use Rattle.certification.specs.Certifies.{Certifies}
-use Rattle.client_trx.specs.Live.{Live, has_locks, is_running, begun, with_status, commit_of}
+use Rattle.client_trx.specs.Live.{Live, has_locks, is_running, begun, with_status, commit_of, is_uncommitted, rollback_of, rollback_due}
 use Rattle.client_trx.specs.declared.status.Status.{Status}
 use Rattle.client_trx.specs.declared.status.Status.TheVariants as status
 use Rattle.row_locks.specs.declared.holder.Holder.TheVariants.{Session}
 use Rattle.row_locks.proofs.AlikeLaws.{alike_between, alike-remove}
 use Rattle.undo_rows.specs.RowTable.{RowTable, without}
-use Rattle.node_meaning.specs.Node.{ModelNode, rows_at, locks_of, end_live}
+use Rattle.node_meaning.specs.Node.{ModelNode, rows_at, locks_of, end_live, send_any, taken_back}
 use Rattle.node_meaning.specs.Client.{begin_call, commit_call, send_commit, rollback_call}
 use Rattle.node_meaning.specs.Facts.{Facts, ProgressInRange}
 use Rattle.node_meaning.proofs.LockLaws.{lock_keys, lock_of_live, locks_of-remove, locks_of-replace, locks_of-same}
 use Rattle.node_core.specs.declared.node.Node.{Node}
-use Rattle.node_core.specs.Client.{sends_commit}
+use Rattle.node_core.specs.Client.{sends_commit, sends_rollback}
+use Rattle.node_core.specs.Sending.{node_sent, node_sent_any, with_commit}
 use Rattle.node_core.specs.Tabled.{Tabled, made_by}
-use Rattle.node_core.proofs.KeptFacts.{facts_ended, facts_begun, facts_sent}
+use Rattle.node_core.proofs.KeptFacts.{facts_ended, facts_begun, facts_rolled_back, facts_sent}
 use Rattle.node_core.specs.Stands.{Stands, Tables, AreWorked, Unchanged, Moves, DoneOver, plain_of}
 use Rattle.node_core.proofs.Tabling.{same_tabled, made-alike, put_at, ended_at, tabled-cleared, tabled-left}
 
@@ -75,6 +75,25 @@ running_locks (status.Certified n) h = refl
 running_locks status.KilledSent h = cc
 running_locks (status.Replaying n) h = cc
 
+-- what holds, holds where memory ends
+pub where_err : {A E P : Type 0} (r : Result A E) → P → OnErr r P
+where_err (Ok x) h = tt
+where_err (Err e) h = h
+
+-- a node that is the same
+pub same_unchanged : (old new : Node) → new ≡ old → Unchanged old new
+same_unchanged old new same = subst (Unchanged old) (sym same) (record {
+  plain = refl;
+  inbox = refl;
+  certification = refl;
+  work = refl;
+  unit_room = refl;
+  locks = refl;
+  committed = refl;
+  changes = refl;
+  room = omega arith;
+})
+
 pub running_status : (s : Status) → not (is_running s) ≡ false → s ≡ status.Running
 running_status status.Running h = refl
 running_status status.FragmentSent h = cc
@@ -114,14 +133,60 @@ ended_stands order old new s moves st =
     moves.inbox moves.certification (moves.tables order st.tables)
     (facts_ended order old new st s moves.plain)
 
-pub rolled_back : (order : List Event) (old new : Node) (s : ℕ) (o : Option Live) → get old.live s ≡ o → is_some o ≡ true
-    → Moves (λ n. end_live n s) old new → Stands order old
+-- what a node sends changes none of its tables
+pub sent_any_tables : (order : List Event) (node : Node) (o : Option WriteSet) → Tables order node → Tables order (node_sent_any node o)
+sent_any_tables order node None t = t
+sent_any_tables order node (Some w) t = record { locks = t.locks; rows = t.rows; units = t.units; room = t.room }
+
+sent_any_plain : (node : Node) (o : Option WriteSet) → plain_of (node_sent_any node o) ≡ send_any (plain_of node) o
+sent_any_plain node None = refl
+sent_any_plain node (Some w) = refl
+
+sent_any_inbox : (node : Node) (o : Option WriteSet) → (node_sent_any node o).inbox ≡ node.inbox
+sent_any_inbox node None = refl
+sent_any_inbox node (Some w) = refl
+
+sent_any_certification : (node : Node) (o : Option WriteSet) → (node_sent_any node o).certification ≡ node.certification
+sent_any_certification node None = refl
+sent_any_certification node (Some w) = refl
+
+sent_any_at : (n : ModelNode) (o : Option WriteSet) → ((send_any n o).at.committed ≡ n.at.committed)
+    × ((send_any n o).at.certified ≡ n.at.certified) × ((send_any n o).at.taken ≡ n.at.taken)
+sent_any_at n None = (refl, refl, refl)
+sent_any_at n (Some w) = (refl, refl, refl)
+
+-- the rollback that is due is sent, and the transaction ends
+pub rolled_back : (order : List Event) (old mid new : Node) (s : ℕ) (t : Live) (due : Option WriteSet) → get old.live s ≡ Some t
+    → ProgressInRange old.at → due ≡ rollback_due t old.at.serial old.at.committed → mid ≡ node_sent_any old due
+    → Moves (λ n. end_live n s) mid new → Stands order old
     → DoneOver order (λ n. rollback_call n s (get n.live s)) old new reply.RolledBack
-rolled_back order old new s None is some moves st = absurd (true≢false (sym some))
-rolled_back order old new s (Some t) is some moves st = record {
-  same = ap (λ n. (reply.RolledBack, n)) moves.plain ∙ ap (rollback_call (plain_of old) s) (sym is);
-  stands = ended_stands order old new s moves st;
-}
+rolled_back order old mid new s t due is range due_is mid_is moves st =
+    let w = rollback_due t old.at.serial old.at.committed in
+    let sent : mid ≡ node_sent_any old w = mid_is ∙ ap (node_sent_any old) due_is in
+    let plain : plain_of new ≡ end_live (taken_back (plain_of old) t) s =
+    moves.plain ∙ ap (λ (n : Node). end_live (plain_of n) s) sent ∙ ap (λ n. end_live n s) (sent_any_plain old w) in
+    let at = sent_any_at (plain_of old) w in
+    record {
+      same = ap (λ n. (reply.RolledBack, n)) plain ∙ ap (rollback_call (plain_of old) s) (sym is);
+      stands = stands_by order old new st (ap (λ (n : ModelNode). n.at.committed) plain ∙ at.0)
+          (ap (λ (n : ModelNode). n.at.certified) plain ∙ at.1) (ap (λ (n : ModelNode). n.at.taken) plain ∙ at.2)
+          (moves.inbox ∙ ap (λ (n : Node). n.inbox) sent ∙ sent_any_inbox old w)
+          (moves.certification ∙ ap (λ (n : Node). n.certification) sent ∙ sent_any_certification old w)
+          (moves.tables order (subst (Tables order) (sym sent) (sent_any_tables order old w st.tables)))
+          (facts_rolled_back order old new st s t is range plain);
+    }
+
+-- a rollback is due only where a fragment was sent
+back_due : (b c : Bool) (w : WriteSet) → is_some (cond (b && c) (Some w) None) ≡ true → c ≡ true
+back_due true true w some = refl
+back_due true false w some = absurd (true≢false (sym some))
+back_due false c w some = absurd (true≢false (sym some))
+
+pub sends_back : (o : Option Live) (t : Live) (due : Option WriteSet) (serial last_seen : ℕ) → o ≡ Some t
+    → due ≡ rollback_due t serial last_seen → IsTrue (is_some due) → IsTrue (sends_rollback o)
+sends_back o t due serial last_seen is due_is some =
+    ap sends_rollback is
+    ∙ back_due (is_uncommitted t.status) (nat_lt 0 t.sent) (rollback_of t serial last_seen) (ap is_some (sym due_is) ∙ some)
 
 pub committed_nothing : (order : List Event) (old new : Node) (s : ℕ) (t : Live) → get old.live s ≡ Some t
     → (length t.ops == 0 && t.sent == 0) ≡ true → Moves (λ n. end_live n s) old new → Stands order old
@@ -142,17 +207,17 @@ is_free (Some t) none = absurd (true≢false none)
 no_lock : lock_keys true empty ≡ None
 no_lock = ap (λ n. cond (n == 0) None (Some empty)) (len-empty parts_cmp Kind)
 
-pub began : (order : List Event) (old new : Node) (s : ℕ) → get old.live s ≡ None
-    → plain_of new ≡ (begin_call (plain_of old) s None).1 → new.inbox ≡ old.inbox → new.certification ≡ old.certification
+pub began : (order : List Event) (old new : Node) (s unit : ℕ) → get old.live s ≡ None
+    → plain_of new ≡ (begin_call (plain_of old) s unit None).1 → new.inbox ≡ old.inbox → new.certification ≡ old.certification
     → new.units ≡ old.units → new.locks ≡ old.locks → new.rows ≡ old.rows → Stands order old
-    → DoneOver order (λ n. begin_call n s (get n.live s)) old new reply.Done
-began order old new s free plain inbox same units locks rows st =
-    let t = begun (record { member = old.at.member; begin = old.at.begin }) 0 in
+    → DoneOver order (λ n. begin_call n s unit (get n.live s)) old new reply.Done
+began order old new s unit free plain inbox same units locks rows st =
+    let t = begun (record { member = old.at.member; begin = old.at.begin }) unit in
     let had = st.tables.room in
     let same_room : new.units.room ≡ old.units.room = ap (λ u. u.room) units in
     let same_spare : new.rows.spare ≡ old.rows.spare = ap (λ (r : RowTable). r.spare) rows in
     record {
-      same = ap (λ n. (reply.Done, n)) plain ∙ ap (begin_call (plain_of old) s) (sym free);
+      same = ap (λ n. (reply.Done, n)) plain ∙ ap (begin_call (plain_of old) s unit) (sym free);
       stands = stands_by order old new st (ap (λ (n : ModelNode). n.at.committed) plain)
           (ap (λ (n : ModelNode). n.at.certified) plain) (ap (λ (n : ModelNode). n.at.taken) plain)
           inbox same
@@ -166,54 +231,67 @@ began order old new s free plain inbox same units locks rows st =
             units = subst (AreWorked order) (sym units) st.tables.units;
             room = omega (arith, had, same_room, same_spare);
           })
-          (facts_begun order old new st s free plain);
+          (facts_begun order old new st s unit free plain);
     }
 
 -- ---- a commit is sent
+-- the node once the commit of the session's transaction is sent
+abbrev pub after_commit : Node → ℕ → Live → Node
+after_commit old s t = record (node_sent old (commit_of t old.at.serial old.at.committed)) {
+  live = insert old.live s (with_status t status.CommitSent);
+}
+
+pub commit_by_none : (node : Node) (s : ℕ) (taken : FiniteMap nat_cmp Live) → None ≡ get node.live s → taken ≡ remove node.live s
+    → record node { live = taken } ≡ record node { live = with_commit node.live s (get node.live s) }
+commit_by_none node s taken none left =
+    ap (λ l. record node { live = l }) (left ∙ remove-absent numbers node.live s (sym none) ∙ ap (with_commit node.live s) none)
+
+pub commit_put : (node : Node) (s : ℕ) (trx new : Live) (taken live : FiniteMap nat_cmp Live) → Some trx ≡ get node.live s
+    → taken ≡ remove node.live s → new ≡ with_status trx status.CommitSent → live ≡ insert taken s new
+    → record node { live = live } ≡ record node { live = with_commit node.live s (get node.live s) }
+commit_put node s trx new taken live mine left new_is live_is =
+    ap (λ l. record node { live = l })
+    (live_is ∙ ap (λ l. insert l s new) left ∙ insert-remove numbers node.live s new ∙ ap (insert node.live s) new_is
+    ∙ ap (with_commit node.live s) mine)
+
+pub sent_node : (old mid : Node) (s : ℕ) (t : Live) (w : WriteSet) → get old.live s ≡ Some t → mid ≡ node_sent old w
+    → w ≡ commit_of t old.at.serial old.at.committed
+    → record mid { live = with_commit mid.live s (get mid.live s) } ≡ after_commit old s t
+sent_node old mid s t w is mid_is w_is =
+    ap (λ (n : Node). record n { live = with_commit n.live s (get n.live s) }) (mid_is ∙ ap (node_sent old) w_is)
+    ∙ ap (λ o. record (node_sent old (commit_of t old.at.serial old.at.committed)) { live = with_commit old.live s o }) is
+
 pub commit_sent : (order : List Event) (old new : Node) (s : ℕ) (t : Live) → get old.live s ≡ Some t → not (is_running t.status) ≡ false
-    → (length t.ops == 0 && t.sent == 0) ≡ false → ProgressInRange old.at
-    → plain_of new ≡ send_commit (plain_of old) s t → new.inbox ≡ old.inbox → new.certification ≡ old.certification
-    → new.units ≡ old.units → new.locks ≡ old.locks → new.rows ≡ old.rows → Stands order old
+    → (length t.ops == 0 && t.sent == 0) ≡ false → ProgressInRange old.at → new ≡ after_commit old s t → Stands order old
     → DoneOver order (λ n. commit_call n s (get n.live s)) old new reply.Pending
-commit_sent order old new s t is running some range plain inbox same units locks rows st =
+commit_sent order old new s t is running some range new_is st =
     let u = with_status t status.CommitSent in
     let locked = running_locks t.status running in
     let had = st.tables.room in
-    let same_room : new.units.room ≡ old.units.room = ap (λ u. u.room) units in
-    let same_spare : new.rows.spare ≡ old.rows.spare = ap (λ (r : RowTable). r.spare) rows in
-    let taken : commit_call (plain_of old) s (Some t) ≡ (reply.Pending, send_commit (plain_of old) s t) =
-    ap (λ b. cond {A = Reply × ModelNode} b (reply.Committed 0, end_live (plain_of old) s) (reply.Pending, send_commit (plain_of old) s t)) some in
+    let same_room : new.units.room ≡ old.units.room = ap (λ (n : Node). n.units.room) new_is in
+    let same_spare : new.rows.spare ≡ old.rows.spare = ap (λ (n : Node). n.rows.spare) new_is in
+    let done : (reply.Pending, plain_of new) ≡ commit_call (plain_of old) s (Some t) =
+    ap (λ n. (reply.Pending, plain_of n)) new_is
+    ∙ ap (λ b. cond {A = Reply × ModelNode} b (reply.Committed 0, end_live (plain_of old) s) (reply.Pending, send_commit (plain_of old) s t)) (sym some) in
     record {
-      same = ap (λ n. (reply.Pending, n)) plain ∙ sym taken ∙ ap (commit_call (plain_of old) s) (sym is);
-      stands = stands_by order old new st (ap (λ (n : ModelNode). n.at.committed) plain)
-          (ap (λ (n : ModelNode). n.at.certified) plain) (ap (λ (n : ModelNode). n.at.taken) plain)
-          inbox same
+      same = done ∙ ap (commit_call (plain_of old) s) (sym is);
+      stands = stands_by order old new st (ap (λ (n : Node). n.at.committed) new_is)
+          (ap (λ (n : Node). n.at.certified) new_is) (ap (λ (n : Node). n.at.taken) new_is)
+          (ap (λ (n : Node). n.inbox) new_is) (ap (λ (n : Node). n.certification) new_is)
           (record {
-            locks = alike_between _ _ _ _ (ap (λ l. l.locks) locks) st.tables.locks
+            locks = alike_between _ _ _ _ (ap (λ (n : Node). n.locks.locks) new_is) st.tables.locks
                 (sym (locks_of-same old.live old.units.units s t u is (sym locked) refl)
-                ∙ ap (λ (n : ModelNode). locks_of n.live n.units) (sym plain));
-            rows = subst (λ (n : ModelNode). Tabled (rows_at order n.at.committed) n.live new.rows) (sym plain)
+                ∙ ap (λ (n : Node). locks_of n.live n.units.units) (sym new_is));
+            rows = subst (λ (n : Node). Tabled (rows_at order n.at.committed) n.live new.rows) (sym new_is)
                 (tabled-left (rows_at order old.at.committed) old.live old.rows new.rows st.tables.rows (insert old.live s u) s (Some u)
                 (put_at old.live s u) (λ id. made-alike (rows_at order old.at.committed) id u t (sym locked) refl
-                ∙ ap (made_by (rows_at order old.at.committed) id) (sym is)) (ap (λ (r : RowTable). r.committed) rows) (ap (λ (r : RowTable). r.changes) rows));
-            units = subst (AreWorked order) (sym units) st.tables.units;
+                ∙ ap (made_by (rows_at order old.at.committed) id) (sym is)) (ap (λ (n : Node). n.rows.committed) new_is)
+                (ap (λ (n : Node). n.rows.changes) new_is));
+            units = subst (AreWorked order) (sym (ap (λ (n : Node). n.units) new_is)) st.tables.units;
             room = omega (arith, had, same_room, same_spare);
           })
-          (facts_sent order old new st s t is running range reply.Pending (ap (λ n. (reply.Pending, n)) plain ∙ sym taken));
+          (facts_sent order old new st s t is running range reply.Pending done);
     }
-
--- the node with what a commit sends
-pub sent_plain : (old : Node) (s : ℕ) (t : Live) (live : FiniteMap nat_cmp Live) (queue : Queued)
-    → live ≡ insert old.live s (with_status t status.CommitSent)
-    → queue ≡ queued old.queue (message.Write (spelling (commit_of t old.at.serial old.at.committed)))
-    → plain_of (record old { at = record old.at { serial = old.at.serial + 1 }; live = live; queue = queue })
-    ≡ send_commit (plain_of old) s t
-sent_plain old s t live queue live_is queue_is = λ i. record (plain_of old) {
-  at = record old.at { serial = old.at.serial + 1 };
-  ordered = (queue_is i).ordered;
-  outbox = (queue_is i).outbox;
-  live = live_is i;
-}
 
 pub nothing_done : (ops : List Op) (sent : ℕ) → ops ≡ [] → sent ≡ 0 → (length ops == 0 && sent == 0) ≡ true
 nothing_done ops sent no_ops none = λ i. length (no_ops i) == 0 && none i == 0

@@ -8,11 +8,11 @@ use Rattle.order_event.specs.declared.event.Event.{Event}
 use Rattle.order_event.specs.declared.step.Answer.{Answer}
 use Rattle.client_trx.specs.Live.{Live, is_running}
 use Rattle.node_meaning.specs.Node.{ModelNode, end_live}
-use Rattle.node_meaning.specs.Client.{Statement, begin_call, statement, commit_call, is_pending}
+use Rattle.node_meaning.specs.Client.{Statement, begin_call, statement, commit_call, rollback_call, is_pending}
 use Rattle.node_meaning.specs.Steps.{take_step, certify_step, finish_step, advance_step}
 use Rattle.node_meaning.specs.Facts.{Facts, ProgressInRange}
 use Rattle.node_meaning.proofs.ClientFacts.{StatementFits}
-use Rattle.node_laws.proofs.StepFacts.{take_keeps, certify_keeps, started_keeps, finish_keeps, advance_keeps, ended_keeps, begin_keeps, statement_keeps, commit_keeps, told_keeps}
+use Rattle.node_laws.proofs.StepFacts.{take_keeps, certify_keeps, started_keeps, finish_keeps, advance_keeps, ended_keeps, begin_keeps, statement_keeps, commit_keeps, rollback_keeps, told_keeps}
 use Rattle.node_core.specs.declared.node.Node.{Node}
 use Rattle.node_core.specs.Stands.{Stands, plain_of}
 use Rattle.node_core.specs.Starting.{CanStart, unit_started}
@@ -65,19 +65,24 @@ module _ (order : List Event) (old new : Node) (st : Stands order old) where
     pub facts_ended : plain_of new ≡ end_live (plain_of old) s → Facts order (plain_of new)
     facts_ended same = subst (Facts order) (sym same) (ended_keeps order (plain_of old) s st.facts)
 
-    pub facts_begun : get old.live s ≡ None → plain_of new ≡ (begin_call (plain_of old) s None).1
-        → Facts order (plain_of new)
-    facts_begun free same = subst (Facts order) (sym same)
-        (begin_keeps order (plain_of old) s None free st.facts)
+    pub facts_begun : (unit : ℕ) → get old.live s ≡ None
+        → plain_of new ≡ (begin_call (plain_of old) s unit None).1 → Facts order (plain_of new)
+    facts_begun unit free same = subst (Facts order) (sym same)
+        (begin_keeps order (plain_of old) s unit None free st.facts)
+
+    pub facts_rolled_back : (t : Live) → get old.live s ≡ Some t → ProgressInRange old.at
+        → plain_of new ≡ (rollback_call (plain_of old) s (Some t)).1 → Facts order (plain_of new)
+    facts_rolled_back t is range same = subst (Facts order) (sym same)
+        (rollback_keeps order (plain_of old) s (Some t) is range st.facts)
 
     module _ (t : Live) (is : get old.live s ≡ Some t)
         (running : not (is_running t.status) ≡ false) where
-      pub facts_extended : (asked : Statement) → StatementFits asked → (said : Reply)
-          → (said, plain_of new) ≡ statement order (plain_of old) s (Some t) asked
+      pub facts_extended : (asked : Statement) → StatementFits asked → ProgressInRange old.at
+          → (said : Reply) → (said, plain_of new) ≡ statement order (plain_of old) s (Some t) asked
           → Facts order (plain_of new)
-      facts_extended asked fits said same =
+      facts_extended asked fits range said same =
           after (λ n. statement order n s (Some t) asked) said same
-          (statement_keeps order (plain_of old) s (Some t) is running asked fits)
+          (statement_keeps order (plain_of old) s (Some t) is running asked fits range)
 
       pub facts_sent : ProgressInRange old.at → (said : Reply)
           → (said, plain_of new) ≡ commit_call (plain_of old) s (Some t)

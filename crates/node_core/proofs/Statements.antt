@@ -17,8 +17,9 @@ use Rattle.row_model.specs.declared.calls.Reply.{Reply}
 use Rattle.row_model.specs.declared.calls.Reply.TheVariants as reply
 use Rattle.order_event.specs.declared.event.Event.{Event}
 use Rattle.write_set.specs.Rules.{row_parts}
+use Rattle.node_meaning.specs.Facts.{ProgressInRange}
 use Rattle.certification.proofs.Ahead.{holder-is}
-use Rattle.client_trx.specs.Live.{Live, add_by, added_unless, is_due, is_too_large, has_locks}
+use Rattle.client_trx.specs.Live.{Live, add_by, added_unless, told_added, is_due, is_too_large, has_locks}
 use Rattle.client_trx.specs.KeyedOps.{IsKeyOf, with_op}
 use Rattle.client_trx.specs.declared.status.Added.TheVariants as added
 use Rattle.client_trx.specs.declared.status.Added.{Added}
@@ -32,11 +33,12 @@ use Rattle.row_model.specs.Rows.{id_of}
 use Rattle.row_model.specs.declared.calls.Call.{Call}
 use Rattle.node_meaning.specs.Node.{ModelNode, is_left, is_joining, rows_at, locks_of, set_live}
 use Rattle.node_meaning.specs.Client as client
-use Rattle.node_meaning.specs.Client.{first_line, where_true, refusal, met_by, extended, statement, statement_by, accepted_reply, is_pending}
+use Rattle.node_meaning.specs.Client.{first_line, where_true, refusal, met_by, extended, statement, statement_by, accepted, changed, send_fragment, is_pending}
 use Rattle.node_core.specs.declared.node.Node.{Node}
 use Rattle.node_core.specs.declared.refusal.Met.{Met}
 use Rattle.node_core.specs.Client.{hindrance, closed_by}
-use Rattle.node_core.specs.Statement.{met_at, told_and_put, changes_after}
+use Rattle.node_core.specs.Sending.{trx_after, node_after, grown_by}
+use Rattle.node_core.specs.Statement.{met_at, told_and_put, reply_after, changes_after}
 use Rattle.node_core.specs.Tabled.{Tabled, made_by}
 use Rattle.node_meaning.proofs.ClientFacts.{StatementFits}
 use Rattle.node_meaning.proofs.LockLaws.{locks_of-with_lock}
@@ -68,21 +70,45 @@ pub err_map : {A E : Type 0} (P Q : Type 0) (r : Result A E) → (P → Q) → O
 err_map P Q (Ok x) f h = tt
 err_map P Q (Err e) f h = f h
 
--- ---- the transaction is taken out and put back
-pub extended_told : (node : Node) (s : ℕ) (trx t new : Live) (live : FiniteMap nat_cmp Live) (told : Added) (p : Parts) (k : Kind)
-    (o : Option Op) → Some trx ≡ get node.live s → get node.live s ≡ Some t → (told, new) ≡ add_by trx p k o
-    → live ≡ insert (remove node.live s) s new
-    → (told, record node { live = live }) ≡ told_and_put node s (add_by t p k o)
-extended_told node s trx t new live told p k o mine there both live_is =
-    let same : trx ≡ t = same_Some trx t (mine ∙ there) in
-    let all : (told, new) ≡ add_by t p k o = both ∙ ap (λ t. add_by t p k o) same in
-    ap (λ l. (told, record node { live = l })) (live_is ∙ insert-remove numbers node.live s new) ∙ ap (told_and_put node s) all
+-- ---- a statement is added, and the fragment that it makes due is sent
+after_part : (a : Added) (t : Live) (node : Node) → node_after a t node
+    ≡ record node { at = record node.at { serial = (node_after a t node).at.serial }; queue = (node_after a t node).queue }
+after_part added.Done t node = refl
+after_part added.Fragment t node = refl
+after_part added.TooLarge t node = refl
 
-pub put_back : (node : Node) (s : ℕ) (trx new : Live) (live : FiniteMap nat_cmp Live) → Some trx ≡ get node.live s → new ≡ trx
-    → live ≡ insert (remove node.live s) s new → record node { live = live } ≡ node
-put_back node s trx new live mine same live_is =
-    ap (λ l. record node { live = l })
-    (live_is ∙ insert-remove numbers node.live s new ∙ ap (insert node.live s) same ∙ insert-there numbers node.live s trx (sym mine))
+-- ---- the transaction is taken out and put back
+around : (a : Added) (t : Live) (node : Node) (taken live : FiniteMap nat_cmp Live)
+    → record (node_after a t (record node { live = taken })) { live = live } ≡ record (node_after a t node) { live = live }
+around added.Done t node taken live = refl
+around added.Fragment t node taken live = refl
+around added.TooLarge t node taken live = refl
+
+pub extended_told : (node after : Node) (s : ℕ) (trx t new : Live) (taken live : FiniteMap nat_cmp Live) (told : Added) (p : Parts)
+    (k : Kind) (o : Option Op) → Some trx ≡ get node.live s → get node.live s ≡ Some t → taken ≡ remove node.live s
+    → (told, new, after) ≡ grown_by (record node { live = taken }) (add_by trx p k o)
+    → after ≡ record (record node { live = taken }) { at = after.at; queue = after.queue }
+    → live ≡ insert after.live s new
+    → (told, record after { live = live }) ≡ told_and_put node s (add_by t p k o)
+extended_told node after s trx t new taken live told p k o mine there left both others live_is =
+    let same : trx ≡ t = same_Some trx t (mine ∙ there) in
+    let all : (told, new, after) ≡ grown_by (record node { live = taken }) (add_by t p k o) =
+    both ∙ ap (λ t. grown_by (record node { live = taken }) (add_by t p k o)) same in
+    let b = add_by t p k o in
+    let live_now : live ≡ insert node.live s (trx_after b.0 b.1) =
+    live_is ∙ ap (λ (n : Node). insert n.live s new) others ∙ ap (λ l. insert l s new) left ∙ insert-remove numbers node.live s new
+    ∙ ap (λ (p : Added × Live × Node). insert node.live s p.1) all in
+    (λ i. ((all i).0, record (all i).2 { live = live_now i }))
+    ∙ ap (λ n. (b.0, n)) (around b.0 b.1 node taken (insert node.live s (trx_after b.0 b.1)))
+
+pub put_back : (node after : Node) (s : ℕ) (trx new : Live) (taken live : FiniteMap nat_cmp Live) → Some trx ≡ get node.live s
+    → taken ≡ remove node.live s → after ≡ record node { live = taken } → new ≡ trx → live ≡ insert after.live s new
+    → record after { live = live } ≡ node
+put_back node after s trx new taken live mine left after_is same live_is =
+    ap (λ (n : Node). record n { live = live }) after_is
+    ∙ ap (λ l. record node { live = l })
+    (live_is ∙ ap (λ (n : Node). insert n.live s new) after_is ∙ ap (λ l. insert l s new) left ∙ insert-remove numbers node.live s new
+    ∙ ap (insert node.live s) same ∙ insert-there numbers node.live s trx (sym mine))
 
 -- ---- why a statement is refused
 more_or_none : (o : Option Reply) (large : Option Reply)
@@ -149,10 +175,8 @@ refused_by order node session id kind change t is free m met why refused st =
     ∙ ap (λ h. first_line (h ∷ where_true (is_too_large (extended t asked)) reply.TooLarge ∷ [])) refused in
     record {
       same =
-          ap (λ r. statement_by r (plain_of node) (
-            accepted_reply (met_by order (plain_of node) session t asked).row change,
-            set_live (plain_of node) session (extended t asked),
-          )) (sym by)
+          ap (λ r. statement_by r (plain_of node)
+          (accepted (plain_of node) session (met_by order (plain_of node) session t asked).row change (extended t asked))) (sym by)
           ∙ ap (λ o. statement order (plain_of node) session o asked) (sym is);
       stands = st;
     }
@@ -185,6 +209,44 @@ told_small : (b : Bool) (change : Option Op) (old new : Live) → ((added_unless
 told_small true change old new told = absurd (told refl)
 told_small false change old new told = refl
 
+-- what the model makes of an accepted statement, by what became of it
+abbrev model_after : Added → ModelNode → ℕ → Live → ModelNode
+model_after added.Done n session t = set_live n session t
+model_after added.Fragment n session t = send_fragment n session t
+model_after added.TooLarge n session t = set_live n session t
+
+accepted_is : (n : ModelNode) (session : ℕ) (row : Option (List ℕ)) (change : Option Op) (t : Live)
+    → accepted n session row change t ≡ (reply_after (told_added change t) row change, model_after (told_added change t) n session t)
+accepted_is n session row None t = refl
+accepted_is n session row (Some o) t = by (is_due t)
+  where
+    by : (due : Bool) → changed due n session t
+        ≡ (reply_after (cond due added.Fragment added.Done) row (Some o), model_after (cond due added.Fragment added.Done) n session t)
+    by true = refl
+    by false = refl
+
+plain_after : (a : Added) (node : Node) (session : ℕ) (t : Live)
+    → plain_of (record (node_after a t node) { live = insert node.live session (trx_after a t) }) ≡ model_after a (plain_of node) session t
+plain_after added.Done node session t = refl
+plain_after added.Fragment node session t = refl
+plain_after added.TooLarge node session t = refl
+
+-- the transaction has its locks, its keys and its changes
+after_locked : (a : Added) (t : Live) → has_locks t.status ≡ true → has_locks (trx_after a t).status ≡ true
+after_locked added.Done t locked = locked
+after_locked added.Fragment t locked = refl
+after_locked added.TooLarge t locked = locked
+
+after_keys : (a : Added) (t : Live) → (trx_after a t).keys ≡ t.keys
+after_keys added.Done t = refl
+after_keys added.Fragment t = refl
+after_keys added.TooLarge t = refl
+
+after_ops : (a : Added) (t : Live) → (trx_after a t).ops ≡ t.ops
+after_ops added.Done t = refl
+after_ops added.Fragment t = refl
+after_ops added.TooLarge t = refl
+
 module _ (order : List Event) (c0 c1 c2 : Node) (session : ℕ) (id : RowId) (kind : Kind) (change : Option Op) (t : Live)
     (is : get c0.live session ≡ Some t) (free : is_pending (Some t) ≡ false) (m : Met) (met : m ≡ met_at c0 session id kind t)
     (none : hindrance m.held m.blocker m.row change ≡ None) (same : Unchanged c0 c1) (told : Added)
@@ -195,8 +257,8 @@ module _ (order : List Event) (c0 c1 c2 : Node) (session : ℕ) (id : RowId) (ki
   abbrev more : Live
   more = extended t asked
 
-  abbrev accepted : Reply × ModelNode
-  accepted = (accepted_reply (met_by order (plain_of c0) session t asked).row change, set_live (plain_of c0) session more)
+  abbrev done_by : Reply × ModelNode
+  done_by = accepted (plain_of c0) session (met_by order (plain_of c0) session t asked).row change more
 
   refusal_by : refusal (met_by order (plain_of c0) session t asked) change ≡ first_line (where_true (is_too_large more) reply.TooLarge ∷ [])
   refusal_by =
@@ -205,16 +267,13 @@ module _ (order : List Event) (c0 c1 c2 : Node) (session : ℕ) (id : RowId) (ki
       ∙ ap (λ h. first_line (h ∷ where_true (is_too_large more) reply.TooLarge ∷ [])) none
 
   statement_is : (b : Bool) → is_too_large more ≡ b → statement order (plain_of c0) session (Some t) asked
-      ≡ statement_by (first_line (where_true b reply.TooLarge ∷ [])) (plain_of c0) accepted
+      ≡ statement_by (first_line (where_true b reply.TooLarge ∷ [])) (plain_of c0) done_by
   statement_is b large =
-      ap (λ r. statement_by r (plain_of c0) accepted)
+      ap (λ r. statement_by r (plain_of c0) done_by)
       (refusal_by ∙ ap (λ b. first_line (where_true b reply.TooLarge ∷ [])) large)
 
-  after_add : (b : Bool) → is_too_large more ≡ b
-      → c2 ≡ record c1 { live = insert c1.live session (added_unless b change t more).1 }
-  after_add b large =
-      ap (λ (p : Added × Node). p.1) both
-      ∙ ap (λ b. record c1 { live = insert c1.live session (added_unless b change t more).1 }) large
+  after_add : (b : Bool) → is_too_large more ≡ b → (told, c2) ≡ told_and_put c1 session (added_unless b change t more)
+  after_add b large = both ∙ ap (λ b. told_and_put c1 session (added_unless b change t more)) large
 
   told_is : told ≡ (added_unless (is_too_large more) change t more).0
   told_is = ap (λ (p : Added × Node). p.0) both
@@ -226,7 +285,9 @@ module _ (order : List Event) (c0 c1 c2 : Node) (session : ℕ) (id : RowId) (ki
       → DoneOver order (λ n. statement order n session (get n.live session) asked) c0 c2 reply.TooLarge
   grown_too_large too =
       let large : is_too_large more ≡ true = told_large (is_too_large more) change t more (sym told_is ∙ too) in
-      let left : c2 ≡ c1 = after_add true large ∙ ap (λ l. record c1 { live = l }) (insert-there numbers c1.live session t live_is) in
+      let left : c2 ≡ c1 =
+      ap (λ (p : Added × Node). p.1) (after_add true large)
+      ∙ ap (λ l. record c1 { live = l }) (insert-there numbers c1.live session t live_is) in
       record {
         same =
             ap (λ n. (reply.TooLarge, n)) (ap plain_of left ∙ same.plain) ∙ sym (statement_is true large)
@@ -238,15 +299,38 @@ module _ (order : List Event) (c0 c1 c2 : Node) (session : ℕ) (id : RowId) (ki
       (others : c3 ≡ record c2 { locks = c3.locks; rows = c3.rows })
       (locks : c3.locks.locks ≡ (granted c2.locks.locks (Session session) (row_parts id) kind).1)
       (changes : c3.rows.changes ≡ changes_after c2.rows session change) (committed : c3.rows.committed ≡ c2.rows.committed)
-      (spare : c2.rows.spare ≤ c3.rows.spare + 1) (fits : StatementFits asked) where
+      (spare : c2.rows.spare ≤ c3.rows.spare + 1) (fits : StatementFits asked) (range : ProgressInRange c0.at) where
     is_small : is_too_large more ≡ false
     is_small = told_small (is_too_large more) change t more (λ e. small (told_is ∙ e))
 
-    grown : c2 ≡ record c1 { live = insert c1.live session more }
-    grown = after_add false is_small
+    -- what became of it
+    abbrev what : Added
+    what = told_added change more
 
-    plain_is : plain_of c3 ≡ set_live (plain_of c1) session more
-    plain_is = ap plain_of others ∙ ap plain_of grown
+    abbrev new : Live
+    new = trx_after what more
+
+    abbrev mid : Node
+    mid = node_after what more c1
+
+    put : c2 ≡ record mid { live = insert c1.live session new }
+    put = ap (λ (p : Added × Node). p.1) (after_add false is_small)
+
+    grown : c2 ≡ record c1 { at = record c1.at { serial = mid.at.serial }; queue = mid.queue; live = insert c1.live session new }
+    grown = put ∙ ap (λ (n : Node). record n { live = insert c1.live session new }) (after_part what more c1)
+
+    all_is : c3 ≡ record c1 {
+      at = record c1.at { serial = mid.at.serial };
+      queue = mid.queue;
+      live = insert c1.live session new;
+      locks = c3.locks;
+      rows = c3.rows;
+    }
+    all_is = others ∙ ap (λ (n : Node). record n { locks = c3.locks; rows = c3.rows }) grown
+
+    plain_is : plain_of c3 ≡ model_after what (plain_of c0) session more
+    plain_is =
+        ap plain_of others ∙ ap plain_of put ∙ plain_after what c1 session more ∙ ap (λ n. model_after what n session more) same.plain
 
     st1 : Stands order c1
     st1 = unchanged_stands order c0 c1 same st
@@ -254,13 +338,16 @@ module _ (order : List Event) (c0 c1 c2 : Node) (session : ℕ) (id : RowId) (ki
     locked : has_locks t.status ≡ true
     locked = running_locks t.status free
 
+    locked_after : has_locks new.status ≡ true
+    locked_after = after_locked what more locked
+
     unblocked : blocker (locks_of c1.live c1.units.units) (Session session) (row_parts id) kind ≡ None
     unblocked =
         sym (block_alike c1.locks.locks (locks_of c1.live c1.units.units) st1.tables.locks (Session session) (row_parts id) kind)
         ∙ ap (λ l. blocker l (Session session) (row_parts id) kind) same.locks
         ∙ ap (λ (m : Met). m.blocker) (sym met) ∙ unhindered m.held m.blocker m.row change none
 
-    locks_now : HoldAlike c3.locks.locks (locks_of (insert c1.live session more) c1.units.units)
+    locks_now : HoldAlike c3.locks.locks (locks_of (insert c1.live session new) c1.units.units)
     locks_now =
         let model = locks_of c1.live c1.units.units in
         alike_between _ _ _ _
@@ -269,13 +356,15 @@ module _ (order : List Event) (c0 c1 c2 : Node) (session : ℕ) (id : RowId) (ki
         ∙ ap (λ o. (granted_unless o c1.locks.locks (Session session) (row_parts id) kind).1)
         (block_alike c1.locks.locks model st1.tables.locks (Session session) (row_parts id) kind ∙ unblocked))
         (alike-with_lock c1.locks.locks model (Session session) (row_parts id) kind st1.tables.locks)
-        (sym (locks_of-with_lock c1.live c1.units.units session t more (row_parts id) kind live_is locked locked refl))
+        (sym (locks_of-with_lock c1.live c1.units.units session t new (row_parts id) kind live_is locked locked_after
+        (after_keys what more)))
 
-    rows_now : (o : Option Op) → change ≡ o → Tabled (rows_at order c1.at.committed) (insert c1.live session more) c3.rows
+    rows_now : (o : Option Op) → change ≡ o → Tabled (rows_at order c1.at.committed) (insert c1.live session new) c3.rows
     rows_now None no_change =
-        tabled-left (rows_at order c1.at.committed) c1.live c1.rows c3.rows st1.tables.rows (insert c1.live session more) session (Some more)
-        (put_at c1.live session more)
-        (λ row. made-alike (rows_at order c1.at.committed) row more t refl (ap (with_op t.ops) no_change)
+        tabled-left (rows_at order c1.at.committed) c1.live c1.rows c3.rows st1.tables.rows (insert c1.live session new) session (Some new)
+        (put_at c1.live session new)
+        (λ row. made-alike (rows_at order c1.at.committed) row new t (locked_after ∙ sym locked)
+        (after_ops what more ∙ ap (with_op t.ops) no_change)
         ∙ ap (made_by (rows_at order c1.at.committed) row) (sym live_is))
         (committed ∙ ap (λ (n : Node). n.rows.committed) grown)
         (changes ∙ ap (changes_after c2.rows session) no_change ∙ ap (λ (n : Node). n.rows.changes) grown)
@@ -283,40 +372,38 @@ module _ (order : List Event) (c0 c1 c2 : Node) (session : ℕ) (id : RowId) (ki
         let key = key_changes (row_parts id) kind o (subst (λ c. IfSome c (λ o. IsKeyOf (row_parts id) kind o)) some_change fits.key) in
         let unowned = free_row order (plain_of c1) (rows_at order c1.at.committed) c1.rows st1.facts st1.tables.rows session (id_of o) kind
         key.1 (ap (λ p. blocker (locks_of c1.live c1.units.units) (Session session) p kind) (sym key.0) ∙ unblocked) in
-        tabled-written (rows_at order c1.at.committed) c1.live c1.rows c3.rows st1.tables.rows session t more o live_is locked
-        (ap (with_op t.ops) some_change) locked unowned (committed ∙ ap (λ (n : Node). n.rows.committed) grown)
+        tabled-written (rows_at order c1.at.committed) c1.live c1.rows c3.rows st1.tables.rows session t new o live_is locked
+        (after_ops what more ∙ ap (with_op t.ops) some_change) locked_after unowned
+        (committed ∙ ap (λ (n : Node). n.rows.committed) grown)
         (changes ∙ ap (changes_after c2.rows session) some_change ∙ ap (λ (n : Node). (written n.rows session o).1) grown
         ∙ ap (λ w. (written_unless w c1.rows session o).1) unowned)
 
-    taken : statement order (plain_of c0) session (Some t) asked ≡ accepted
-    taken = statement_is false is_small
-
-    pub grown_stands : DoneOver order (λ n. statement order n session (get n.live session) asked) c0 c3 (accepted_reply m.row change)
+    pub grown_stands : DoneOver order (λ n. statement order n session (get n.live session) asked) c0 c3 (reply_after told m.row change)
     grown_stands =
         let had = st1.tables.room in
         let unit_room = same.unit_room in
-        let new_room : c3.units.room ≡ c1.units.room = ap (λ (n : Node). n.units.room) others ∙ ap (λ (n : Node). n.units.room) grown in
+        let new_room : c3.units.room ≡ c1.units.room = ap (λ (n : Node). n.units.room) all_is in
         let mid_spare : c2.rows.spare ≡ c1.rows.spare = ap (λ (n : Node). n.rows.spare) grown in
-        let plain0 : plain_of c3 ≡ set_live (plain_of c0) session more = plain_is ∙ ap (λ n. set_live n session more) same.plain in
         let row_is : m.row ≡ (met_by order (plain_of c0) session t asked).row =
         ap (λ (m : Met). m.row) met ∙ row_same order c0 session id kind change t is free st in
-        let done_is : (accepted_reply m.row change, plain_of c3) ≡ statement order (plain_of c0) session (Some t) asked =
-        (λ i. (accepted_reply (row_is i) change, plain0 i)) ∙ sym taken in
+        let told_now : told ≡ what = ap (λ (p : Added × Node). p.0) (after_add false is_small) in
+        let done_is : (reply_after told m.row change, plain_of c3) ≡ statement order (plain_of c0) session (Some t) asked =
+        (λ i. (reply_after (told_now i) (row_is i) change, plain_is i))
+        ∙ sym (accepted_is (plain_of c0) session (met_by order (plain_of c0) session t asked).row change more)
+        ∙ sym (statement_is false is_small) in
         record {
           same = done_is ∙ ap (λ o. statement order (plain_of c0) session o asked) (sym is);
-          stands = stands_by order c1 c3 st1 (ap (λ (n : ModelNode). n.at.committed) plain_is)
-              (ap (λ (n : ModelNode). n.at.certified) plain_is) (ap (λ (n : ModelNode). n.at.taken) plain_is)
-              (ap (λ (n : Node). n.inbox) others ∙ ap (λ (n : Node). n.inbox) grown)
-              (ap (λ (n : Node). n.certification) others ∙ ap (λ (n : Node). n.certification) grown)
+          stands = stands_by order c1 c3 st1 (ap (λ (n : Node). n.at.committed) all_is)
+              (ap (λ (n : Node). n.at.certified) all_is) (ap (λ (n : Node). n.at.taken) all_is)
+              (ap (λ (n : Node). n.inbox) all_is) (ap (λ (n : Node). n.certification) all_is)
               (record {
-                locks = subst (λ (n : ModelNode). HoldAlike c3.locks.locks (locks_of n.live n.units)) (sym plain_is) locks_now;
-                rows = subst (λ (n : ModelNode). Tabled (rows_at order n.at.committed) n.live c3.rows) (sym plain_is)
+                locks = subst (λ (n : Node). HoldAlike c3.locks.locks (locks_of n.live n.units.units)) (sym all_is) locks_now;
+                rows = subst (λ (n : Node). Tabled (rows_at order n.at.committed) n.live c3.rows) (sym all_is)
                     (rows_now change refl);
-                units = subst (AreWorked order)
-                    (sym (ap (λ (n : Node). n.units) others ∙ ap (λ (n : Node). n.units) grown)) st1.tables.units;
+                units = subst (AreWorked order) (sym (ap (λ (n : Node). n.units) all_is)) st1.tables.units;
                 room = omega (arith, room, unit_room, new_room, mid_spare, spare);
               })
-              (facts_extended order c0 c3 st session t is free asked fits (accepted_reply m.row change) done_is);
+              (facts_extended order c0 c3 st session t is free asked fits range (reply_after told m.row change) done_is);
         }
 
 -- a statement is only made of a live transaction

@@ -25,7 +25,13 @@ abbrev pub sends_commit : Option Live → Bool
 sends_commit None = false
 sends_commit (Some t) = not (length t.ops == 0 && t.sent == 0)
 
--- the calls of the table that may take memory: a begin where no transaction is live, a statement of a live one, and a commit that is sent
+-- a rollback is sent where the transaction ever sent a fragment
+abbrev pub sends_rollback : Option Live → Bool
+sends_rollback None = false
+sends_rollback (Some t) = nat_lt 0 t.sent
+
+-- the calls of the table that may take memory: a begin where no transaction is live, a statement of
+-- a live one, and a commit or a rollback that is sent
 abbrev pub takes_memory : Option Live → Call → Bool
 takes_memory live (call.Begin unit) = is_none live
 takes_memory live (call.Insert id row) = is_some live
@@ -34,7 +40,7 @@ takes_memory live (call.Delete id) = is_some live
 takes_memory live (call.Share id) = is_some live
 takes_memory live (call.Read id) = false
 takes_memory live call.Commit = sends_commit live
-takes_memory live call.Rollback = false
+takes_memory live call.Rollback = sends_rollback live
 takes_memory live call.Poll = false
 
 -- why the row as it is refuses a statement

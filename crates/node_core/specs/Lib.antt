@@ -3,6 +3,7 @@ pub mod Answers
 pub mod Certifying
 pub mod Client
 pub mod Memory
+pub mod Sending
 pub mod Stands
 pub mod Starting
 pub mod Statement

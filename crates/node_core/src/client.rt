@@ -1,4 +1,4 @@
-ghost use Rattle.std.specs.Prelude.{◌≡◌, ◌≤◌, ◌<◌, ◌^◌, List, is_none, IfOk, OnErr, IsTrue, false};
+ghost use Rattle.std.specs.Prelude.{◌≡◌, ◌≤◌, ◌<◌, ◌^◌, List, is_none, is_some, IfSome, IfOk, OnOk, OnErr, IsTrue, false};
 ghost use Rattle.finite_map.specs.FiniteMap.{get};
 
 use crate::node::Node;
@@ -11,7 +11,7 @@ use order_event::Message;
 use row_locks::Holder;
 use row_model::{Call, Op, Reply, RowId};
 use undo_rows::Rows;
-use write_set::encode;
+use write_set::{WriteSet, encode};
 use wsrep_base::{NoMemory, TrxId};
 
 impl Node {
@@ -19,13 +19,16 @@ impl Node {
     ghost use Rattle.order_event.specs.declared.event.Event.{Event};
     ghost use Rattle.node_meaning.specs.Node.{rows_at, seen_rows, end_live};
     ghost use Rattle.node_meaning.specs.Client.{client, served, begin_call, commit_call, rollback_call, poll_reply, row_reply, is_pending};
-    ghost use Rattle.node_core.specs.Client.{closed_by, sends_commit, takes_memory};
+    ghost use Rattle.node_core.specs.Client.{closed_by, sends_commit, sends_rollback, takes_memory};
+    ghost use Rattle.node_core.specs.Sending.{node_sent, node_sent_any, with_commit};
+    ghost use Rattle.write_set.specs.Rules.{obeys};
     ghost use Rattle.node_core.specs.Memory.{CallWants};
     ghost use Rattle.node_core.specs.Stands.{IsStanding, Stands, Does, Unchanged, Moves, plain_of};
 
     /// What a session, 1 to 32, is answered when it makes a call. An answer that waits, and one that
-    /// comes before the table of calls, takes no memory; nor do `read`, `poll`, `rollback`, a begin
-    /// within a transaction, a statement or a commit without one, and a commit of nothing.
+    /// comes before the table of calls, takes no memory; nor do `read`, `poll`, a begin within a
+    /// transaction, a statement or a commit without one, a commit of nothing, and a `rollback` where
+    /// no fragment was ever sent.
     pub fn client(&mut self, session: u8, call: &Call) -> Result<Reply, NoMemory>
         requires stands { IsStanding self.old }
         requires session { (1 ≤ session) × (session ≤ 32) }
@@ -83,7 +86,7 @@ impl Node {
         ensures takes { OnErr result (IsTrue (takes_memory (get self.old.live session) call.now)) }
     {
         match call {
-            Call::Begin(_) => self.begin(session),
+            Call::Begin(unit) => self.begin(session, *unit),
             Call::Insert(id, row) => {
                 self.statement(session, id, Kind::Exclusive, Some(Op::Insert(*id, *row)))
             }
@@ -96,16 +99,17 @@ impl Node {
             Call::Share(id) => self.statement(session, id, Kind::Shared, None),
             Call::Read(id) => Ok(self.read(session, id)),
             Call::Commit => self.commit(session),
-            Call::Rollback => Ok(self.roll_back(session)),
+            Call::Rollback => self.roll_back(session),
             Call::Poll => Ok(self.poll(session)),
         }
     }
 
-    // A transaction begins with the next begin number.
-    fn begin(&mut self, session: u8) -> Result<Reply, NoMemory>
+    // A transaction begins with the next begin number. Its fragments have so many changes; with 0 it
+    // sends none.
+    fn begin(&mut self, session: u8, unit: u64) -> Result<Reply, NoMemory>
         requires session { (1 ≤ session) × (session ≤ 32) }
         requires begin { self.old.at.begin < 2 ^ 63 }
-        ensures ok { IfOk result (Does (λ order n. begin_call n session (get n.live session)) self.old self.new) }
+        ensures ok { IfOk result (Does (λ order n. begin_call n session unit (get n.live session)) self.old self.new) }
         ensures err { OnErr result (Unchanged self.old self.new) }
         ensures none { OnErr result (IsTrue (is_none (get self.old.live session))) }
     {
@@ -116,7 +120,7 @@ impl Node {
             member: self.at.member,
             begin: self.at.begin,
         };
-        let trx = Trx::begin(self.alloc, id, 0)?;
+        let trx = Trx::begin(self.alloc, id, unit)?;
         self.live.put(session, trx);
         self.at.begin += 1;
         Ok(Reply::Done)
@@ -158,24 +162,66 @@ impl Node {
             self.end(session);
             return Ok(Reply::Committed(0));
         }
-        let mut sent = trx.copy()?;
-        let set = sent.make_commit(self.at.serial, self.at.committed)?;
-        let bytes = encode(self.alloc, &set)?;
-        self.queue.push(Message::Write(bytes))?;
-        self.at.serial += 1;
-        self.live.put(session, sent);
+        let set = trx.commit_set(self.at.serial, self.at.committed)?;
+        self.send(&set)?;
+        self.commit_is_sent(session);
         Ok(Reply::Pending)
     }
 
-    fn roll_back(&mut self, session: u8) -> Reply
-        ensures { Does (λ order n. rollback_call n session (get n.live session)) self.old self.new result }
+    // The commit of the session's transaction is sent.
+    fn commit_is_sent(&mut self, session: u8)
+        requires running { is_pending (get self.old.live session) ≡ false }
+        ensures { self.new ≡ record self.old { live = with_commit self.old.live session (get self.old.live session) } }
     {
-        if self.live.contains(session) {
-            self.end(session);
-            Reply::RolledBack
-        } else {
-            Reply::NoTrx
+        let Some(mut trx) = self.live.take(session) else {
+            return;
+        };
+        trx.send_commit();
+        self.live.put(session, trx);
+    }
+
+    // The session's transaction ends; where it ever sent a fragment, a rollback is sent first.
+    fn roll_back(&mut self, session: u8) -> Result<Reply, NoMemory>
+        requires serial { self.old.at.serial < 2 ^ 63 }
+        ensures ok { IfOk result (Does (λ order n. rollback_call n session (get n.live session)) self.old self.new) }
+        ensures err { OnErr result (Unchanged self.old self.new) }
+        ensures sends { OnErr result (IsTrue (sends_rollback (get self.old.live session))) }
+    {
+        progress_in_range(&self.at);
+        let Some(trx) = self.live.get(session) else {
+            return Ok(Reply::NoTrx);
+        };
+        let due = trx.rollback_due(self.at.serial, self.at.committed)?;
+        self.send_any(&due)?;
+        self.end(session);
+        Ok(Reply::RolledBack)
+    }
+
+    // Sends the write set, if there is one.
+    fn send_any(&mut self, set: &Option<WriteSet>) -> Result<(), NoMemory>
+        requires serial { self.old.at.serial < 2 ^ 63 }
+        requires valid { IfSome set.now (λ set. IsTrue (obeys set)) }
+        ensures ok { OnOk result (self.new ≡ node_sent_any self.old set.now) }
+        ensures err { OnErr result (self.new ≡ self.old) }
+        ensures some { OnErr result (IsTrue (is_some set.now)) }
+    {
+        match set {
+            Some(set) => self.send(set),
+            None => Ok(()),
         }
+    }
+
+    /// Sends the write set with the next serial: its message waits to be ordered.
+    pub(crate) fn send(&mut self, set: &WriteSet) -> Result<(), NoMemory>
+        requires serial { self.old.at.serial < 2 ^ 63 }
+        requires valid { IsTrue (obeys set.now) }
+        ensures ok { OnOk result (self.new ≡ node_sent self.old set.now) }
+        ensures err { OnErr result (self.new ≡ self.old) }
+    {
+        let bytes = encode(self.alloc, set)?;
+        self.queue.push(Message::Write(bytes))?;
+        self.at.serial += 1;
+        Ok(())
     }
 
     // The session's transaction ends: it is live no longer, and its locks and changes go.

@@ -1,11 +1,11 @@
-ghost use Rattle.std.specs.Prelude.{◌≡◌, ◌≤◌, ◌+◌, List, Option, Some, None, is_some, IfOk, IfSome, OnOk, OnErr, IsTrue, false, option_map};
+ghost use Rattle.std.specs.Prelude.{◌≡◌, ◌≤◌, ◌<◌, ◌^◌, ◌+◌, List, Option, Some, None, is_some, IfOk, IfSome, OnOk, OnErr, IsTrue, false, option_map};
 ghost use Rattle.finite_map.specs.FiniteMap.{get};
 ghost use Rattle.key_sets.specs.Keys.{one_key};
 ghost use Rattle.write_set.specs.Rules.{row_parts};
-ghost use Rattle.node_meaning.specs.Client.{accepted_reply};
+ghost use Rattle.node_core.specs.Statement.{reply_after};
 
 use crate::node::Node;
-use crate::ranges::{change_in_range, place_in_range};
+use crate::ranges::{change_in_range, place_in_range, progress_in_range};
 use crate::refusal::{Met, hindrance, row_reply};
 use client_trx::{Added, Trx};
 use key_sets::{KeySet, Kind, Parts};
@@ -20,9 +20,11 @@ impl Node {
     ghost use Rattle.write_set.specs.Rules.{parts_fit};
     ghost use Rattle.client_trx.specs.KeyedOps.{IsKeyOf};
     ghost use Rattle.client_trx.specs.Live.{Live, add_by};
+    ghost use Rattle.client_trx.specs.declared.status.Status.TheVariants as status;
     ghost use Rattle.row_locks.specs.Locks.{granted};
     ghost use Rattle.row_locks.specs.declared.holder.Holder.TheVariants.{Session};
     ghost use Rattle.node_core.specs.Client.{hindrance};
+    ghost use Rattle.node_core.specs.Sending.{grown_by};
     ghost use Rattle.node_core.specs.Statement.{met_at, told_and_put, changes_after};
     ghost use Rattle.order_event.specs.declared.event.Event.{Event};
     ghost use Rattle.node_meaning.specs.Client.{statement, is_pending};
@@ -39,6 +41,7 @@ impl Node {
         requires stands { IsStanding self.old }
         requires session { (1 ≤ session) × (session ≤ 32) }
         requires running { is_pending (get self.old.live session) ≡ false }
+        requires serial { self.old.at.serial < 2 ^ 63 }
         requires names { IsTrue (place_fits id.now) }
         requires change { IfSome change (IsKeyOf (row_parts id.now) kind) }
         ensures ok { IfOk result (Does (λ order n. statement order n session (get n.live session) (record { id = id.now; kind = kind; change = change })) self.old self.new) }
@@ -83,6 +86,7 @@ impl Node {
     ) -> Result<Reply, NoMemory>
         requires session { (1 ≤ session) × (session ≤ 32) }
         requires running { is_pending (get self.old.live session) ≡ false }
+        requires serial { self.old.at.serial < 2 ^ 63 }
         requires names { IsTrue (place_fits id.now) }
         requires change { IfSome change (IsKeyOf (row_parts id.now) kind) }
         requires met { Some met ≡ option_map (met_at self.old session id.now kind) (get self.old.live session) }
@@ -93,12 +97,13 @@ impl Node {
         let parts = parts_of(id);
         place_in_range(id);
         change_in_range(&change);
+        progress_in_range(&self.at);
         self.make_room()?;
         match self.extend(session, &parts, kind, change)? {
             Added::TooLarge => Ok(Reply::TooLarge),
-            Added::Done | Added::Fragment => {
+            told => {
                 self.hold(session, &parts, kind, &change);
-                Ok(accepted_reply(met.row, &change))
+                Ok(reply_after(told, met.row, &change))
             }
         }
     }
@@ -114,7 +119,8 @@ impl Node {
         self.rows.reserve(room)
     }
 
-    // The session's transaction gets one more key, and the change where there is one.
+    // The session's transaction gets one more key, and the change where there is one; a fragment
+    // that this makes due is sent.
     fn extend(
         &mut self,
         session: u8,
@@ -124,18 +130,54 @@ impl Node {
     ) -> Result<Added, NoMemory>
         requires session { (1 ≤ session) × (session ≤ 32) }
         requires running { is_pending (get self.old.live session) ≡ false }
+        requires serial { self.old.at.serial < 2 ^ 63 }
         requires names { IsTrue (parts_fit parts.now) }
         requires change { IfSome change (IsKeyOf parts.now kind) }
         ensures ok { IfOk result (λ told. (t : Live) → get self.old.live session ≡ Some t → (told, self.new) ≡ told_and_put self.old session (add_by t parts.now kind change)) }
         ensures err { OnErr result (self.new ≡ self.old) }
-        ensures others { self.new ≡ record self.old { live = self.new.live } }
+        ensures others { self.new ≡ record self.old { live = self.new.live; at = self.new.at; queue = self.new.queue } }
     {
         let Some(mut trx) = self.live.take(session) else {
             return Ok(Added::TooLarge);
         };
-        let added = trx.add(parts, kind, change);
+        let added = self.grow(&mut trx, parts, kind, change);
         self.live.put(session, trx);
         added
+    }
+
+    // Adds to the transaction. A fragment that this makes due has all its memory first: it is made,
+    // and its message is in the queue, before the transaction changes.
+    fn grow(
+        &mut self,
+        trx: &mut Trx,
+        parts: &Parts,
+        kind: Kind,
+        change: Option<Op>,
+    ) -> Result<Added, NoMemory>
+        requires running { trx.old.status ≡ status.Running }
+        requires serial { self.old.at.serial < 2 ^ 63 }
+        requires names { IsTrue (parts_fit parts.now) }
+        requires change { IfSome change (IsKeyOf parts.now kind) }
+        ensures ok { IfOk result (λ told. (told, trx.new, self.new) ≡ grown_by self.old (add_by trx.old parts.now kind change)) }
+        ensures err { OnErr result ((self.new ≡ self.old) × (trx.new ≡ trx.old)) }
+        ensures others { self.new ≡ record self.old { at = self.new.at; queue = self.new.queue } }
+    {
+        let (serial, seen) = (self.at.serial, self.at.committed);
+        let Some(set) = trx.due_fragment(parts, kind, &change, serial, seen)? else {
+            return trx.add(parts, kind, change);
+        };
+        self.send(&set)?;
+        match trx.add(parts, kind, change) {
+            Ok(told) => {
+                trx.send_fragment();
+                Ok(told)
+            }
+            Err(why) => {
+                self.queue.take_back();
+                self.at.serial -= 1;
+                Err(why)
+            }
+        }
     }
 
     // The key is locked and the row changed; there is room for both, and nobody stands in the way.
@@ -166,13 +208,15 @@ fn key_of(alloc: Global, parts: &Parts, kind: Kind) -> Result<KeySet, NoMemory>
     }
 }
 
-// A change that is accepted answers OK, and `share` the row.
-fn accepted_reply(row: Option<Row>, change: &Option<Op>) -> Reply
-    ensures { result ≡ accepted_reply row change.now }
+// The answer to a statement, by what became of it.
+fn reply_after(told: Added, row: Option<Row>, change: &Option<Op>) -> Reply
+    ensures { result ≡ reply_after told row change.now }
 {
-    match change {
-        Some(_) => Reply::Done,
-        None => row_reply(row),
+    match (told, change) {
+        (Added::Done, Some(_)) => Reply::Done,
+        (Added::Done, None) => row_reply(row),
+        (Added::Fragment, _) => Reply::Pending,
+        (Added::TooLarge, _) => Reply::TooLarge,
     }
 }
 

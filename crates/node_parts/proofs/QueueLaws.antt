@@ -1,8 +1,7 @@
 -- The messages of a queue: one more is ordered, and the first of a kind is found and taken.
-use Rattle.std.proofs.Common.{◌≡◌, ℕ, zero, suc, ◌+◌, ◌-◌, ◌<◌, ◌≤◌, Bool, true, false, cond, List, [], ◌∷◌, ◌++◌, length, get_or, take, drop, Option, Some, None, refl, sym, ap, subst, ◌∙◌, arith, length-drop, length-append}
+use Rattle.std.proofs.Common.{◌≡◌, ℕ, zero, suc, ◌+◌, ◌-◌, ◌<◌, ◌≤◌, Bool, true, false, cond, List, [], ◌∷◌, ◌++◌, length, get_or, take, drop, Option, Some, None, refl, sym, ap, subst, ◌∙◌, arith, length-drop}
 use Rattle.std.proofs.lemmas.List.{take_more, drop_more, take-take, drop-take, drop_all, length-take-le}
 use Rattle.std.proofs.lemmas.Option.{slice_get_past, slice_get-get_or}
-use Rattle.std.proofs.Math.Seq.{take-append_seam}
 use Rattle.std.specs.Borrow.{Bor}
 use Rattle.std.specs.Slice.{IsItemAt}
 use Rattle.std.specs.Option.{option_map, unwrap_or, option_copied}
@@ -12,7 +11,7 @@ use Rattle.std.specs.List.{find, slice_get, remove}
 use Rattle.order_event.specs.declared.event.Message.{Message}
 use Rattle.node_meaning.specs.Steps.{without_first}
 use Rattle.node_parts.specs.Kinds.{place}
-use Rattle.node_parts.specs.Queue.{Queued, queued, without_newest, moved, taken}
+use Rattle.node_parts.specs.Queue.{Queued, without_newest, moved, taken}
 
 none_some : (k : ℕ) → None ≡ Some k → ⊥
 none_some k e = true≢false (sym (ap is_some e))
@@ -64,12 +63,6 @@ newest_left messages rest n q is few rest_is some =
     let waits : drop n rest ≡ take (length (drop n messages) - 1) (drop n messages) =
     ap (drop n) (rest_is ∙ ap (λ k. take k messages) more) ∙ drop-take n (length (drop n messages) - 1) messages in
     (λ i. record { ordered = left i; outbox = waits i }) ∙ ap without_newest is
-
--- to take back what was just sent leaves all as it was
-pub sent_and_back : (q : Queued) (m : Message) → without_newest (queued q m) ≡ q
-sent_and_back q m =
-    let one : length (q.outbox ++ m ∷ []) - 1 ≡ length q.outbox = omega (arith, length-append q.outbox (m ∷ [])) in
-    λ i. record q { outbox = (ap (λ k. take k (q.outbox ++ m ∷ [])) one ∙ take-append_seam q.outbox (m ∷ [])) i }
 
 -- ---- where the first of a kind stands
 module _ (test : Message → Bool) where

@@ -1,5 +1,5 @@
 -- A statement that nothing hinders but its transaction's size.
-use Rattle.std.proofs.Common.{◌≡◌, ◌≤◌, sym, ap, subst, ◌∙◌, ◌⊎◌, inl, inr, arith}
+use Rattle.std.proofs.Common.{◌≡◌, ◌≤◌, sym, ap, subst, ◌∙◌, arith}
 use Rattle.finite_map.specs.FiniteMap.{get}
 use Rattle.client_trx.specs.declared.status.Added.{Added}
 use Rattle.client_trx.specs.declared.status.Added.TheVariants as added
@@ -32,39 +32,30 @@ returns-in-TooLarge-clause-ok c order st =
     grown_too_large order old c.make_room.new.self c.extend.new.self s c.args.id.now c.args.kind c.args.change t live.1
     (ap is_pending (sym live.1) ∙ c.requires.running) c.args.met
     (met_is old s c.args.id.now c.args.kind (get old.live s) c.args.met c.requires.met t live.1) c.requires.free
-    c.make_room.ensures.same c.in_ok-extend.field-0
-    (c.in_ok-extend.ensures.ok t (ap (λ (n : ModelNode). get n.live s) c.make_room.ensures.same.plain ∙ live.1)
+    c.make_room.ensures.same c.in_ok-told.told
+    (c.in_ok-told.ensures.ok t (ap (λ (n : ModelNode). get n.live s) c.make_room.ensures.same.plain ∙ live.1)
     ∙ ap (λ p. told_and_put c.make_room.new.self s (add_by t p c.args.kind c.args.change)) c.parts_of-parts.ensures)
     st c.in-TooLarge.is
 
-pub returns-in-Done : goal.returns-in-Done
-returns-in-Done c = record {
+pub returns-in_default : goal.returns-in_default
+returns-in_default c = record {
   ok = λ order st.
       let old = c.args.self.now in
       let s = c.args.session in
       let live = some_live old s c.args.id.now c.args.kind (get old.live s) c.args.met c.requires.met in
       let t = live.0 in
-      subst (DoneOver order (λ n. statement order n s (get n.live s) (asked_for c.args.id.now c.args.kind c.args.change)) old c.hold.new.self) (sym c.accepted_reply.ensures)
+      subst (DoneOver order (λ n. statement order n s (get n.live s) (asked_for c.args.id.now c.args.kind c.args.change)) old c.hold.new.self) (sym c.reply_after.ensures)
       (grown_stands order old c.make_room.new.self c.extend.new.self s c.args.id.now c.args.kind c.args.change t live.1
       (ap is_pending (sym live.1) ∙ c.requires.running) c.args.met
       (met_is old s c.args.id.now c.args.kind (get old.live s) c.args.met c.requires.met t live.1) c.requires.free
-      c.make_room.ensures.same c.in_ok-extend.field-0
-      (c.in_ok-extend.ensures.ok t (ap (λ (n : ModelNode). get n.live s) c.make_room.ensures.same.plain ∙ live.1)
+      c.make_room.ensures.same c.in_ok-told.told
+      (c.in_ok-told.ensures.ok t (ap (λ (n : ModelNode). get n.live s) c.make_room.ensures.same.plain ∙ live.1)
       ∙ ap (λ p. told_and_put c.make_room.new.self s (add_by t p c.args.kind c.args.change)) c.parts_of-parts.ensures)
-      st (one_of c.in_ok-extend.field-0 c.in-Done.is) c.in_ok-make_room.ensures.rows c.hold.new.self c.hold.ensures.others
+      st c.in_default.not-TooLarge c.in_ok-make_room.ensures.rows c.hold.new.self c.hold.ensures.others
       (c.hold.ensures.locks
       ∙ ap (λ p. (granted c.extend.new.self.locks.locks (Session s) p c.args.kind).1) c.parts_of-parts.ensures)
       c.hold.ensures.changes c.hold.ensures.committed c.hold.ensures.spare
-      (record { names = c.requires.names; key = c.requires.change; place = c.place_in_range.ensures; change = c.change_in_range.ensures }));
+      (record { names = c.requires.names; key = c.requires.change; place = c.place_in_range.ensures; change = c.change_in_range.ensures })
+      c.progress_in_range.ensures);
   err = tt;
 }
-  where
-    one_of : (told : Added) → (told ≡ added.Done) ⊎ (told ≡ added.Fragment) → told ≡ added.TooLarge → ⊥
-    one_of told (inl is) large = differ (sym is ∙ large)
-      where
-        differ : added.Done ≡ added.TooLarge → ⊥
-        differ e = cc
-    one_of told (inr is) large = differ (sym is ∙ large)
-      where
-        differ : added.Fragment ≡ added.TooLarge → ⊥
-        differ e = cc

@@ -10,7 +10,7 @@ use Rattle.node_core.proofs.node.Node.begin.Goals as goal
 pub returns-clause-ok : goal.returns-clause-ok
 returns-clause-ok c order st =
     let at = c.args.self.now.at in
-    began order c.args.self.now _ c.args.session
+    began order c.args.self.now _ c.args.session c.args.unit
     (is_free (get c.args.self.now.live c.args.session) (sym c.contains.ensures ∙ c.if-contains.false))
     (ap (λ (live : FiniteMap nat_cmp Live). record (plain_of c.args.self.now) { at = record at { begin = at.begin + 1 }; live = live })
     (c.put.ensures ∙ ap (insert c.args.self.now.live c.args.session) c.in_ok-trx.ensures))

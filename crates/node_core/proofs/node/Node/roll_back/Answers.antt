@@ -1,10 +1,18 @@
--- A live transaction ends.
-use Rattle.std.proofs.Common.{refl, sym, ◌∙◌}
-use Rattle.finite_map.specs.FiniteMap.{get}
-use Rattle.node_core.proofs.ClientCalls.{rolled_back}
+-- The rollback that is due is sent, and the live transaction ends.
+use Rattle.std.proofs.Common.{sym, ap, ◌∙◌}
+use Rattle.client_trx.specs.Live.{Live, rollback_due}
+use Rattle.node_core.proofs.ClientCalls.{rolled_back, sends_back, same_unchanged, where_err}
 use Rattle.node_core.proofs.node.Node.roll_back.Goals as goal
 
-pub returns-then-contains : goal.returns-then-contains
-returns-then-contains c order st =
-    rolled_back order c.args.self.now c.end.new.self c.args.session (get c.args.self.now.live c.args.session) refl
-    (sym c.contains.ensures ∙ c.if-contains.true) c.end.ensures st
+pub returns-clause-ok : goal.returns-clause-ok
+returns-clause-ok c order st =
+    rolled_back order c.args.self.now c.send_any.new.self c.end.new.self c.args.session c.in-Some.trx.now c.in_ok-due.due
+    (sym c.in-Some.ensures) c.progress_in_range.ensures c.in_ok-due.ensures.set c.in_ok-send_any.ensures.ok c.end.ensures st
+
+pub returns-in_err-send_any-clause-err : goal.returns-in_err-send_any-clause-err
+returns-in_err-send_any-clause-err c = where_err _ (same_unchanged c.args.self.now c.send_any.new.self c.in_err-send_any.ensures.err)
+
+pub returns-in_err-send_any-clause-sends : goal.returns-in_err-send_any-clause-sends
+returns-in_err-send_any-clause-sends c =
+    where_err _ (sends_back _ c.in-Some.trx.now c.in_ok-due.due c.args.self.now.at.serial c.args.self.now.at.committed
+    (sym c.in-Some.ensures) c.in_ok-due.ensures.set c.in_err-send_any.ensures.some)
