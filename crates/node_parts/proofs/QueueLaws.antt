@@ -11,7 +11,7 @@ use Rattle.std.specs.List.{find, slice_get, remove}
 use Rattle.order_event.specs.declared.event.Message.{Message}
 use Rattle.node_meaning.specs.Steps.{without_first}
 use Rattle.node_parts.specs.Kinds.{place}
-use Rattle.node_parts.specs.Queue.{Queued, without_newest, moved, taken}
+use Rattle.node_parts.specs.Queue.{Queued, without_newest, first_kept, moved, taken}
 
 none_some : (k : ℕ) → None ≡ Some k → ⊥
 none_some k e = true≢false (sym (ap is_some e))
@@ -63,6 +63,13 @@ newest_left messages rest n q is few rest_is some =
     let waits : drop n rest ≡ take (length (drop n messages) - 1) (drop n messages) =
     ap (drop n) (rest_is ∙ ap (λ k. take k messages) more) ∙ drop-take n (length (drop n messages) - 1) messages in
     (λ i. record { ordered = left i; outbox = waits i }) ∙ ap without_newest is
+
+-- ---- fewer messages wait
+pub kept : (messages : List Message) (n count : ℕ) (q : Queued) → queue_of messages n ≡ q
+    → queue_of (take (n + count) messages) n ≡ first_kept q count
+kept messages n count q is =
+    (λ i. record { ordered = take-take n (n + count) messages (omega arith) i; outbox = drop-take n count messages i })
+    ∙ ap (λ (p : Queued). first_kept p count) is
 
 -- ---- where the first of a kind stands
 module _ (test : Message → Bool) where

@@ -1,5 +1,5 @@
 -- what a node sent: the messages that are ordered and not taken, and those that are not ordered
-use Rattle.std.specs.Prelude.{◌-◌, Bool, List, [], ◌∷◌, ◌++◌, length, take, Option, Some, None}
+use Rattle.std.specs.Prelude.{ℕ, ◌-◌, Bool, List, [], ◌∷◌, ◌++◌, length, take, Option, Some, None}
 use Rattle.order_event.specs.declared.event.Message.{Message}
 use Rattle.node_meaning.specs.Steps.{without_first}
 
@@ -19,6 +19,14 @@ oldest (m ∷ ms) = Some m
 -- one more message waits to be ordered
 abbrev pub queued : Queued → Message → Queued
 queued q m = record q { outbox = q.outbox ++ m ∷ [] }
+
+-- all these messages wait to be ordered
+abbrev pub all_queued : Queued → List Message → Queued
+all_queued q more = record q { outbox = q.outbox ++ more }
+
+-- of the messages that wait only so many stay, the oldest
+abbrev pub first_kept : Queued → ℕ → Queued
+first_kept q count = record q { outbox = take count q.outbox }
 
 -- the newest message that waits is taken back
 abbrev pub without_newest : Queued → Queued

@@ -10,7 +10,7 @@ mod units;
 
 pub use inbox::Inbox;
 pub use passed::Passed;
-pub use queue::Queue;
+pub use queue::{MessageList, Queue};
 pub use slots::Slots;
 pub use transactions::{committer_of, is_local, session_of};
 pub use units::Units;

@@ -12,11 +12,14 @@ use std::collections::VecDeque;
 use std::marker::Model;
 use wsrep_base::NoMemory;
 
+/// Messages, oldest first.
+pub type MessageList = VecDeque<Message>;
+
 /// What a node sent: messages that are ordered and not taken, and behind them those that are not
 /// ordered yet.
 #[derive(Drop)]
 pub struct Queue {
-    messages: VecDeque<Message>,
+    messages: MessageList,
     ordered: usize,
 }
 
@@ -39,7 +42,7 @@ impl Model for Queue {
 }
 
 impl Queue {
-    ghost use Rattle.node_parts.specs.Queue.{nothing_sent, oldest, queued, without_newest, moved, taken};
+    ghost use Rattle.node_parts.specs.Queue.{nothing_sent, oldest, queued, without_newest, all_queued, first_kept, moved, taken};
 
     /// Nothing was sent. It takes no memory.
     pub fn new(alloc: Global) -> Queue
@@ -58,6 +61,24 @@ impl Queue {
     {
         self.messages.push_back(message)?;
         Ok(())
+    }
+
+    /// All these messages wait to be ordered, behind those that do.
+    pub fn append(&mut self, messages: MessageList) -> Result<(), NoMemory>
+        ensures ok { OnOk result (self.new ≡ all_queued self.old messages.items) }
+        ensures err { OnErr result (self.new ≡ self.old) }
+    {
+        let mut messages = messages;
+        self.messages.append(&mut messages)
+    }
+
+    /// Of the messages that wait to be ordered only so many stay, the oldest. It takes no memory.
+    pub fn keep(&mut self, outbox: u64)
+        ensures { self.new ≡ first_kept self.old outbox }
+    {
+        if outbox < self.outbox_len() {
+            self.messages.truncate(self.ordered + outbox as usize);
+        }
     }
 
     /// The newest message that waits to be ordered is taken back. It takes no memory.
