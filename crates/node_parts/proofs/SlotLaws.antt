@@ -1,10 +1,11 @@
 -- Items in places, as a map from sessions: what each edit of a place makes of the map.
-use Rattle.std.proofs.Common.{◌≡◌, ℕ, zero, suc, ◌<◌, ◌≤◌, Bool, true, false, cond, eqb, ltb, List, length, get_or, set, Option, Some, None, refl, sym, ap, subst, ◌∙◌, arith, eqb-true, ltb-true, replicate, true≢false}
+use Rattle.std.proofs.Common.{◌≡◌, ℕ, zero, suc, ◌+◌, ◌<◌, ◌≤◌, Bool, true, false, cond, eqb, ltb, List, length, get_or, set, Option, Some, None, refl, sym, ap, subst, ◌∙◌, arith, eqb-true, ltb-true, replicate, true≢false}
 use Rattle.std.specs.Prelude.{is_some, IfSome}
 use Rattle.std.proofs.lemmas.Bool.{eqb-false, ltb-false}
 use Rattle.std.proofs.lemmas.List.{get_or-set_same, get_or-set_other, get_or_past, get_or_default, get_or-replicate, length-replicate, length-set}
 use Rattle.std.specs.Ordering.{nat_cmp}
-use Rattle.finite_map.specs.FiniteMap.{FiniteMap, empty, get, insert, remove, get-empty}
+use Rattle.std.specs.Cmp.{nat_cmp_total}
+use Rattle.finite_map.specs.FiniteMap.{FiniteMap, empty, get, insert, remove, len, get-empty, len-empty, len-insert}
 use Rattle.node_parts.specs.Slots.{with_place, slots_before, slots, AreSlots, HasSessions}
 use Rattle.node_parts.proofs.MapLaws.{same, get_inserted, get_removed, inserted_here, inserted_elsewhere}
 
@@ -146,3 +147,22 @@ module _ {X : Type 0} where
   pub item_within : (m : FiniteMap nat_cmp X) (q : ℕ) (o : Option X) → HasSessions m → o ≡ get m q → IfSome o (λ x. (1 ≤ q) × (q ≤ 32))
   item_within m q None sessions is = tt
   item_within m q (Some x) sessions is = sessions q x (sym is)
+
+  -- ---- how many there are
+  few_put : (n : ℕ) (b : Bool) (m : FiniteMap nat_cmp X) → len m ≤ n → cond b (len m) (len m + 1) ≤ n + 1
+  few_put n true m few = omega (arith, few)
+  few_put n false m few = omega (arith, few)
+
+  few_with : (n k : ℕ) (o : Option X) (m : FiniteMap nat_cmp X) → len m ≤ n → len (with_place k o m) ≤ n + 1
+  few_with n k None m few = omega (arith, few)
+  few_with n k (Some x) m few =
+      subst (λ count. count ≤ n + 1) (sym (len-insert nat_cmp_total m k x)) (few_put n (is_some (get m k)) m few)
+
+  few_before : (n : ℕ) (places : List (Option X)) → len (slots_before n places) ≤ n
+  few_before zero places = let none = len-empty nat_cmp X in omega (arith, none)
+  few_before (suc n) places =
+      let most = few_with n n (get_or places n None) (slots_before n places) (few_before n places) in omega (arith, most)
+
+  pub few_slots : (places : List (Option X)) (m : FiniteMap nat_cmp X) → slots places ≡ m → len m ≤ 33
+  unfolding slots
+  few_slots places m is = subst (λ seen. len seen ≤ 33) is (few_before 33 places)

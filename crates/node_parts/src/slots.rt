@@ -1,6 +1,6 @@
 ghost use Rattle.std.specs.Prelude.{◌≡◌, ◌≤◌, is_some, IfOk, IfSome};
 ghost use Rattle.std.specs.Option.{option_copied};
-ghost use Rattle.finite_map.specs.FiniteMap.{empty, get, insert, remove};
+ghost use Rattle.finite_map.specs.FiniteMap.{empty, get, insert, remove, len};
 ghost use Rattle.node_parts.specs.Slots.{HasSessions};
 
 use std::alloc::Global;
@@ -54,6 +54,7 @@ impl<T: Drop> Slots<T> {
     pub fn session_end(&self) -> u8
         ensures value { result ≡ 33 }
         ensures sessions { HasSessions self.now }
+        ensures few { len self.now ≤ 33 }
     {
         let _ = &self.places;
         33
