@@ -1,17 +1,19 @@
--- A unit that begins: its entry, the kills and its locks together are the model's start.
-use Rattle.std.proofs.Common.{◌≡◌, ℕ, ◌+◌, ◌≤◌, Bool, true, false, cond, List, length, take, drop, fold, refl, sym, ap, subst, ◌∙◌, arith}
+-- A unit that begins: its entry, the rollbacks, the kills and its locks together are the model's start.
+use Rattle.std.proofs.Common.{◌≡◌, ℕ, ◌+◌, ◌≤◌, ◌<◌, ◌^◌, Bool, true, false, cond, List, [], ◌∷◌, length, take, drop, fold, refl, sym, ap, subst, ◌∙◌, arith}
 use Rattle.std.specs.Prelude.{Option, Some, None}
 use Rattle.std.specs.Ordering.{nat_cmp, eq_by_cmp}
 use Rattle.std.specs.Cmp.{nat_cmp_total}
 use Rattle.finite_map.proofs.Edits.{numbers, itself, Inserted, AtKey, Elsewhere, inserted}
-use Rattle.finite_map.specs.FiniteMap.{FiniteMap, empty, get, insert, get-insert}
+use Rattle.finite_map.specs.FiniteMap.{FiniteMap, empty, get, insert, len, get-insert}
 use Rattle.key_sets.specs.Keys.{Keys, with_keys}
 use Rattle.key_sets.proofs.UnionLaws.{union-symm, union-empty}
 use Rattle.order_event.specs.declared.event.Event.{Event}
+use Rattle.order_event.specs.declared.event.Message.{Message}
 use Rattle.order_event.specs.declared.step.Answer.{Answer}
 use Rattle.order_event.specs.declared.step.Answer.TheVariants as answer
 use Rattle.certification.specs.Certifies.{Certifies}
-use Rattle.client_trx.specs.Live.{Live}
+use Rattle.write_set.specs.declared.write_set.WriteSet.{WriteSet}
+use Rattle.client_trx.specs.Live.{Live, rollback_due}
 use Rattle.row_locks.specs.declared.holder.Holder.TheVariants.{Session, Unit as UnitHolder}
 use Rattle.row_locks.specs.Locks.{LockState, keys_at, touching_sessions}
 use Rattle.row_locks.specs.Alike.{HoldAlike, with_held}
@@ -20,16 +22,18 @@ use Rattle.row_locks.proofs.LockLemmas.{keys_at-insert}
 use Rattle.node_parts.specs.Units.{Work, UnitTable, added}
 use Rattle.node_meaning.specs.declared.progress.Progress.{Progress}
 use Rattle.node_meaning.specs.declared.progress.Stage.TheVariants.{Started}
-use Rattle.node_meaning.specs.Node.{ModelNode, ApplyUnit, locks_of, rows_at}
-use Rattle.node_meaning.specs.Facts.{Facts}
-use Rattle.node_meaning.specs.Steps.{kill_session, started}
+use Rattle.node_meaning.specs.Node.{ModelNode, ApplyUnit, locks_of, rows_at, send_any}
+use Rattle.node_meaning.specs.Facts.{Facts, ProgressInRange}
+use Rattle.node_meaning.specs.Steps.{sent_rollback, send_rollback, end_killed, kill_session}
 use Rattle.node_meaning.specs.Units.{ops_at, named_rows}
+use Rattle.node_meaning.proofs.KillOrder.{kills-touching}
 use Rattle.node_meaning.proofs.LockLaws.{keys_of_unit, keys_at-session, keys_at-unit}
+use Rattle.node_laws.proofs.UnitMoves.{CanTakeBack}
 use Rattle.node_core.specs.declared.node.Node.{Node}
 use Rattle.node_core.specs.Tabled.{Tabled}
 use Rattle.node_core.proofs.KeptFacts.{facts_started}
 use Rattle.node_core.specs.Stands.{AreWorked, IsWorked, DoneOver, Unchanged, plain_of}
-use Rattle.node_core.specs.Starting.{CanStart, Aborts, unit_started}
+use Rattle.node_core.specs.Starting.{CanStart, Aborts, unit_started, with_sent, entered}
 use Rattle.node_core.proofs.Tabling.{same_tabled}
 
 -- one more unit is worked on
@@ -77,42 +81,76 @@ module _ (live : FiniteMap nat_cmp Live) (older : FiniteMap nat_cmp ApplyUnit) (
       by true o = refl
       by false o = refl
 
+-- ---- rollbacks are sent whatever the units are
+module _ (units : FiniteMap nat_cmp ApplyUnit) where
+  any_beside : (n : ModelNode) (o : Option WriteSet)
+      → send_any (record n { units = units }) o ≡ record (send_any n o) { units = units }
+  any_beside n None = refl
+  any_beside n (Some w) = refl
+
+  session_beside : (n : ModelNode) (o : Option Live)
+      → sent_rollback (record n { units = units }) o ≡ record (sent_rollback n o) { units = units }
+  session_beside n None = refl
+  session_beside n (Some t) = any_beside n (rollback_due t n.at.serial n.at.committed)
+
+  sends_beside : (sessions : List ℕ) (n : ModelNode)
+      → fold send_rollback (record n { units = units }) sessions
+      ≡ record (fold send_rollback n sessions) { units = units }
+  sends_beside [] n = refl
+  sends_beside (v ∷ vs) n =
+      ap (λ m. fold send_rollback m vs) (session_beside n (get n.live v))
+      ∙ sends_beside vs (send_rollback n v)
+
 -- ---- the call
-module _ (order : List Event) (old mid killed : Node) (number : ℕ) (keys : Keys) (rows : ℕ) (aborted : List ℕ) (units : UnitTable)
+module _ (order : List Event) (old mid killed : Node) (number : ℕ) (keys : Keys) (rows : ℕ) (aborted : List ℕ) (sent : List Message)
     (can : CanStart order old number keys) (unchanged : Unchanged old mid) (same_units : mid.units ≡ old.units)
-    (put : units ≡ added mid.units number keys rows) (victims : aborted ≡ touching_sessions old.locks.locks keys)
-    (kills : Aborts (λ n. fold (kill_session number) n aborted) (record mid { units = units }) killed) where
+    (sends : fold send_rollback (plain_of old) aborted ≡ with_sent (plain_of old) sent)
+    (victims : aborted ≡ touching_sessions old.locks.locks keys)
+    (kills : Aborts (λ n. fold (end_killed number) n aborted) (entered mid number keys rows sent) killed) where
   abbrev n : ModelNode
   n = plain_of old
 
   abbrev unit : ApplyUnit
   unit = record { stage = Started; keys = keys }
 
-  at_is : killed.at ≡ old.at
-  at_is = kills.at ∙ ap (λ (m : ModelNode). m.at) unchanged.plain
+  at_is : killed.at ≡ record old.at { serial = old.at.serial + length sent }
+  at_is = kills.at ∙ ap (λ (m : ModelNode). (with_sent m sent).at) unchanged.plain
 
   live_is : mid.live ≡ old.live
   live_is = ap (λ (m : ModelNode). m.live) unchanged.plain
 
-  units_is : units ≡ added old.units number keys rows
-  units_is = put ∙ ap (λ (t : UnitTable). added t number keys rows) same_units
+  units_is : added mid.units number keys rows ≡ added old.units number keys rows
+  units_is = ap (λ (t : UnitTable). added t number keys rows) same_units
 
-  begun : plain_of (record mid { units = units }) ≡ record n { units = insert n.units number unit }
-  begun =
-      ap (λ (m : ModelNode). record m { units = units.units }) unchanged.plain
-      ∙ ap (λ (t : UnitTable). record n { units = t.units }) units_is
+  abbrev units_now : FiniteMap nat_cmp ApplyUnit
+  units_now = insert n.units number unit
+
+  begun : plain_of (entered mid number keys rows sent) ≡ record (with_sent n sent) { units = units_now }
+  begun = ap (λ (m : ModelNode). record (with_sent m sent) { units = insert m.units number unit }) unchanged.plain
 
   aborted_is : aborted ≡ touching_sessions (locks_of old.live old.units.units) keys
   aborted_is = victims ∙ touch_alike old.locks.locks (locks_of old.live old.units.units) can.stands.tables.locks keys
 
+  -- all rollbacks first, and then the ends
+  kills_are : (vs : List ℕ) → aborted ≡ vs
+      → fold (kill_session number) (record n { units = units_now }) vs
+      ≡ fold (end_killed number) (fold send_rollback (record n { units = units_now }) vs) vs
+      → fold (end_killed number) (record (with_sent n sent) { units = units_now }) aborted
+      ≡ fold (kill_session number) (record n { units = units_now }) vs
+  kills_are vs is both =
+      ap (fold (end_killed number) (record (with_sent n sent) { units = units_now })) is
+      ∙ sym (both ∙ ap (λ m. fold (end_killed number) m vs) (sends_beside units_now vs n
+      ∙ ap (λ (m : ModelNode). record m { units = units_now }) (ap (fold send_rollback n) (sym is) ∙ sends)))
+
   same : ◌≡◌ {A = Answer × ModelNode} (answer.Started number aborted, plain_of killed) (unit_started number keys n)
   same =
-      ap (λ (m : ModelNode). (answer.Started number aborted, m))
-      (kills.plain ∙ ap (λ (m : ModelNode). fold (kill_session number) m aborted) begun)
-      ∙ ap (started n number keys) aborted_is
+      let vs = touching_sessions (locks_of old.live old.units.units) keys in
+      let ends = kills.plain ∙ ap (λ (m : ModelNode). fold (end_killed number) m aborted) begun
+      ∙ kills_are vs aborted_is (kills-touching number old.live old.units.units keys (record n { units = units_now })) in
+      λ i. (answer.Started number (aborted_is i), ends i)
 
-  facts : Facts order (plain_of killed)
-  facts = facts_started order old killed can.stands number keys can (answer.Started number aborted) same
+  facts : CanTakeBack n → Facts order (plain_of killed)
+  facts back = facts_started order old killed can.stands number keys can back (answer.Started number aborted) same
 
   killed_units : killed.units ≡ added old.units number keys rows
   killed_units = kills.units ∙ units_is
@@ -124,7 +162,7 @@ module _ (order : List Event) (old mid killed : Node) (number : ℕ) (keys : Key
       (ap (λ (m : FiniteMap nat_cmp Live). locks_of m old.units.units) (sym live_is)))
 
   module _ (locks : LockState) (held : HoldAlike locks.locks (with_held killed.locks.locks (UnitHolder number) keys.entries))
-      (count : rows ≡ length (named_rows (ops_at order number))) (room : mid.units.room + rows ≤ mid.rows.spare) where
+      (count : rows ≡ length (named_rows (ops_at order number))) (room : mid.units.room + rows ≤ mid.rows.spare) (back : CanTakeBack n) where
     its_keys : with_keys (keys_at killed.locks.locks (UnitHolder number)) keys.entries ≡ keys
     its_keys =
         ap (λ (had : Keys). with_keys had keys.entries)
@@ -146,7 +184,7 @@ module _ (order : List Event) (old mid killed : Node) (number : ℕ) (keys : Key
         (same_tabled (rows_at order old.at.committed) old.live old.rows mid.rows can.stands.tables.rows unchanged.committed unchanged.changes)))
 
     room_is : killed.units.room ≡ mid.units.room + rows
-    room_is = ap (λ (t : UnitTable). t.room) (kills.units ∙ put)
+    room_is = ap (λ (t : UnitTable). t.room) kills.units
 
     pub begin_done : DoneOver order (unit_started number keys) old (record killed { locks = locks }) (answer.Started number aborted)
     begin_done = record {
@@ -162,6 +200,15 @@ module _ (order : List Event) (old mid killed : Node) (number : ℕ) (keys : Key
           units = subst (AreWorked order) (sym killed_units) (worked_added order old.units number keys rows can.stands.tables.units count);
           room = omega (arith, room_is, room, kills.room);
         };
-        facts = facts;
+        facts = facts back;
       };
     }
+
+-- the node's numbers are in range, also with a rollback of each live transaction
+pub can_take_back : (node : Node) → ProgressInRange node.at → len node.live ≤ 33 → node.at.serial < 2 ^ 63 → CanTakeBack (plain_of node)
+can_take_back node range few low = record {
+  member = range.member;
+  committed = range.committed;
+  serial = omega (arith, few, low);
+  begin = range.begin;
+}

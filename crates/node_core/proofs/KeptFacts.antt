@@ -12,6 +12,7 @@ use Rattle.node_meaning.specs.Client.{Statement, begin_call, statement, commit_c
 use Rattle.node_meaning.specs.Steps.{take_step, certify_step, finish_step, advance_step}
 use Rattle.node_meaning.specs.Facts.{Facts, ProgressInRange}
 use Rattle.node_meaning.proofs.ClientFacts.{StatementFits}
+use Rattle.node_laws.proofs.UnitMoves.{CanTakeBack}
 use Rattle.node_laws.proofs.StepFacts.{take_keeps, certify_keeps, started_keeps, finish_keeps, advance_keeps, ended_keeps, begin_keeps, statement_keeps, commit_keeps, rollback_keeps, told_keeps}
 use Rattle.node_core.specs.declared.node.Node.{Node}
 use Rattle.node_core.specs.Stands.{Stands, plain_of}
@@ -44,16 +45,16 @@ module _ (order : List Event) (old new : Node) (st : Stands order old) where
       (advance_keeps order (plain_of old))
 
   pub facts_started : (number : ℕ) (keys : Keys) → CanStart order old number keys
-      → (answer : Answer)
+      → CanTakeBack (plain_of old) → (answer : Answer)
       → (answer, plain_of new) ≡ unit_started number keys (plain_of old)
       → Facts order (plain_of new)
-  facts_started number keys can answer same =
+  facts_started number keys can back answer same =
       after (unit_started number keys) answer same (λ f.
       started_keeps order (plain_of old) number (record {
         number = can.label;
         trx = can.trx;
         keys = keys;
-      }) f
+      }) back f
       (record {
         above = can.above;
         within = can.within;

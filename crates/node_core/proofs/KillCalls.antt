@@ -19,7 +19,7 @@ use Rattle.row_locks.proofs.AlikeLaws.{alike_between, alike-remove}
 use Rattle.undo_rows.specs.RowTable.{RowTable, without}
 use Rattle.node_parts.proofs.MapLaws.{same, removed_absent}
 use Rattle.node_meaning.specs.Node.{ModelNode, locks_of}
-use Rattle.node_meaning.specs.Steps.{told, killed_session, kill_session}
+use Rattle.node_meaning.specs.Steps.{told, ended_session, end_killed}
 use Rattle.node_meaning.proofs.LockLaws.{lock_keys, locks_of-remove, locks_of-unlocked}
 use Rattle.node_core.specs.declared.node.Node.{Node}
 use Rattle.node_core.specs.Tabled.{Tabled, changes_row}
@@ -48,12 +48,12 @@ killed_unlocked t u (status.Replaying m) n at is = ap (λ (l : Live). has_locks 
 
 -- ---- the three cases
 pub kill_none : (old : Node) (live : FiniteMap nat_cmp Live) (number s : ℕ) → get old.live s ≡ None → live ≡ remove old.live s
-    → Aborts (λ n. kill_session number n s) old (record old { live = live })
+    → Aborts (λ n. end_killed number n s) old (record old { live = live })
 kill_none old live number s none taken =
     let still : live ≡ old.live = taken ∙ removed_absent old.live s none in
     record {
       plain = ap (λ (m : FiniteMap nat_cmp Live). record (plain_of old) { live = m }) still
-          ∙ ap (killed_session number (plain_of old) s) (sym none);
+          ∙ ap (ended_session number (plain_of old) s) (sym none);
       at = refl;
       inbox = refl;
       certification = refl;
@@ -70,10 +70,10 @@ module _ (old : Node) (number s : ℕ) (t : Live) (locks : LockState) (rows : Ro
     (room : old.rows.spare ≤ rows.spare) where
   lives : (u : Live) (live : FiniteMap nat_cmp Live) → has_locks u.status ≡ false → live ≡ insert old.live s u
       → (Lives, u) ≡ killed_by number t
-      → Aborts (λ n. kill_session number n s) old (record old { live = live; locks = locks; rows = rows })
+      → Aborts (λ n. end_killed number n s) old (record old { live = live; locks = locks; rows = rows })
   lives u live none put is = record {
     plain = ap (λ (m : FiniteMap nat_cmp Live). record (plain_of old) { live = m }) put
-        ∙ ap (told (plain_of old) s) is ∙ ap (killed_session number (plain_of old) s) (sym there);
+        ∙ ap (told (plain_of old) s) is ∙ ap (ended_session number (plain_of old) s) (sym there);
     at = refl;
     inbox = refl;
     certification = refl;
@@ -93,7 +93,7 @@ module _ (old : Node) (number s : ℕ) (t : Live) (locks : LockState) (rows : Ro
   -- it lives on without locks
   pub kill_lives : (u : Live) (live : FiniteMap nat_cmp Live) → live ≡ insert (remove old.live s) s u
       → (o : Outcome) → o ≡ Lives → (o, u) ≡ killed_by number t
-      → Aborts (λ n. kill_session number n s) old (record old { live = live; locks = locks; rows = rows })
+      → Aborts (λ n. end_killed number n s) old (record old { live = live; locks = locks; rows = rows })
   kill_lives u live put o is by =
       let killed : ◌≡◌ {A = Outcome × Live} (Lives, u) (killed_by number t) = ap (λ (p : Outcome). (p, u)) (sym is) ∙ by in
       lives u live (killed_unlocked t u t.status number refl killed) (put ∙ insert-remove numbers old.live s u) killed
@@ -101,13 +101,13 @@ module _ (old : Node) (number s : ℕ) (t : Live) (locks : LockState) (rows : Ro
   -- it ends
   pub kill_ends : (u : Live) (reply : Reply) (live : FiniteMap nat_cmp Live) (waiting : FiniteMap nat_cmp Reply) → live ≡ remove old.live s
       → waiting ≡ insert old.waiting s reply → (o : Outcome) → o ≡ Ends reply → (o, u) ≡ killed_by number t
-      → Aborts (λ n. kill_session number n s) old (record old { live = live; waiting = waiting; locks = locks; rows = rows })
+      → Aborts (λ n. end_killed number n s) old (record old { live = live; waiting = waiting; locks = locks; rows = rows })
   kill_ends u reply live waiting gone told_so o is by =
       let killed : ◌≡◌ {A = Outcome × Live} (Ends reply, u) (killed_by number t) = ap (λ (p : Outcome). (p, u)) (sym is) ∙ by in
       record {
         plain = ap (λ (m : FiniteMap nat_cmp Live). record (plain_of old) { live = m; waiting = waiting }) gone
             ∙ ap (λ (w : FiniteMap nat_cmp Reply). record (plain_of old) { live = remove old.live s; waiting = w }) told_so
-            ∙ ap (told (plain_of old) s) killed ∙ ap (killed_session number (plain_of old) s) (sym there);
+            ∙ ap (told (plain_of old) s) killed ∙ ap (ended_session number (plain_of old) s) (sym there);
         at = refl;
         inbox = refl;
         certification = refl;
@@ -151,13 +151,13 @@ more_aborts f g a b c one two = record {
 
 -- one more of the sessions
 pub kills_more : (number : ℕ) (sessions : List ℕ) (i d : ℕ) (a b c : Node) → i < length sessions
-    → Aborts (λ n. fold (kill_session number) n (take i sessions)) a b
-    → Aborts (λ n. kill_session number n (get_or sessions i d)) b c
-    → Aborts (λ n. fold (kill_session number) n (take (i + 1) sessions)) a c
+    → Aborts (λ n. fold (end_killed number) n (take i sessions)) a b
+    → Aborts (λ n. end_killed number n (get_or sessions i d)) b c
+    → Aborts (λ n. fold (end_killed number) n (take (i + 1) sessions)) a c
 kills_more number sessions i d a b c below so_far one =
-    let both = more_aborts (λ n. fold (kill_session number) n (take i sessions)) (λ n. kill_session number n (get_or sessions i d)) a b c so_far one in
+    let both = more_aborts (λ n. fold (end_killed number) n (take i sessions)) (λ n. end_killed number n (get_or sessions i d)) a b c so_far one in
     record {
-      plain = both.plain ∙ sym (fold_more (kill_session number) (plain_of a) sessions i d below);
+      plain = both.plain ∙ sym (fold_more (end_killed number) (plain_of a) sessions i d below);
       at = both.at;
       inbox = both.inbox;
       certification = both.certification;

@@ -1,18 +1,25 @@
 -- when the unit of a commit can start, and what the steps of its start leave
-use Rattle.std.specs.Prelude.{◌≡◌, ◌≤◌, ◌<◌, ℕ, false, List, Some, None}
+use Rattle.std.specs.Prelude.{◌≡◌, ◌≤◌, ◌<◌, ℕ, ◌+◌, false, List, ◌++◌, length, Option, Some, None}
 use Rattle.finite_map.specs.FiniteMap.{FiniteMap, get}
 use Rattle.std.specs.Ordering.{nat_cmp}
 use Rattle.wsrep_base.specs.declared.ids.TrxId.{TrxId}
 use Rattle.key_sets.specs.Keys.{Keys, touches}
 use Rattle.row_model.specs.Rows.{Rows}
 use Rattle.order_event.specs.declared.event.Event.{Event}
+use Rattle.order_event.specs.declared.event.Message.{Message}
+use Rattle.order_event.specs.declared.event.Message.TheVariants as message
 use Rattle.order_event.specs.declared.step.Answer.TheVariants as answer
+use Rattle.write_set.specs.declared.write_set.WriteSet.{WriteSet}
+use Rattle.write_set.specs.Spelling.{spelling}
 use Rattle.cert_meaning.specs.declared.items.CommitItem.{CommitItem}
+use Rattle.client_trx.specs.Live.{Live, rollback_due}
 use Rattle.row_locks.specs.Locks.{touching_sessions}
 use Rattle.row_locks.specs.Alike.{HoldAlike}
 use Rattle.node_meaning.specs.Node.{ModelNode, ApplyUnit, locks_of}
 use Rattle.node_meaning.specs.Facts.{commit_at}
 use Rattle.node_meaning.specs.Steps.{is_local, started, start_step}
+use Rattle.node_parts.specs.Queue.{all_queued}
+use Rattle.node_parts.specs.Units.{added}
 use Rattle.node_core.specs.declared.node.Node.{Node}
 use Rattle.node_core.specs.declared.answers.Started.{Started}
 use Rattle.node_core.specs.Tabled.{Tabled}
@@ -36,6 +43,31 @@ pub record CanStart (order : List Event) (node : Node) (number : ℕ) (keys : Ke
 -- the unit starts, and aborts who is in its way
 abbrev pub unit_started : ℕ → Keys → ModelNode → answer.the_data × ModelNode
 unit_started number keys n = started n number keys (touching_sessions (locks_of n.live n.units) keys)
+
+-- the message of a write set
+abbrev pub written : Option WriteSet → Option Message
+written None = None
+written (Some set) = Some (message.Write (spelling set))
+
+-- the rollback that the end of a session's transaction leaves, by serial and last seen
+abbrev pub rollback_message : Option Live → ℕ → ℕ → Option Message
+rollback_message None serial last_seen = None
+rollback_message (Some t) serial last_seen = written (rollback_due t serial last_seen)
+
+-- these messages are sent, each with a serial of its own
+abbrev pub with_sent : ModelNode → List Message → ModelNode
+with_sent n sent = record n {
+  at = record n.at { serial = n.at.serial + length sent };
+  outbox = n.outbox ++ sent;
+}
+
+-- these messages are sent, and a unit starts
+abbrev pub entered : Node → ℕ → Keys → ℕ → List Message → Node
+entered node number keys rows sent = record node {
+  at = record node.at { serial = node.at.serial + length sent };
+  queue = all_queued node.queue sent;
+  units = added node.units number keys rows;
+}
 
 -- the unit of these keys is what the model starts
 pub record IsStartable (order : List Event) (node : Node) (number : ℕ) (keys : Keys) : Type 0 where

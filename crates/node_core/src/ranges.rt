@@ -1,9 +1,12 @@
-ghost use Rattle.std.specs.Prelude.{◌≡◌, ◌<◌, ◌^◌, IfSome, length};
+ghost use Rattle.std.specs.Prelude.{◌≡◌, ◌<◌, ◌≤◌, ◌^◌, IfSome, length};
+ghost use Rattle.finite_map.specs.FiniteMap.{len};
 ghost use Rattle.std.specs.List.{AllByRecursion};
 ghost use Rattle.write_set.specs.Rules.{OpInRange, IsCell, place_in_range};
 ghost use Rattle.node_meaning.specs.Facts.{ProgressInRange};
 
+use client_trx::Trx;
 use node_meaning::Progress;
+use node_parts::Slots;
 use row_model::{Change, Op, RowId};
 
 // The functions here do nothing: their contracts say what the types of values say of them.
@@ -16,6 +19,13 @@ pub(crate) fn progress_in_range(at: &Progress)
     fits_64(at.committed);
     fits_64(at.serial);
     fits_64(at.begin);
+}
+
+/// There are few live transactions, as sessions are.
+pub(crate) fn few_live(live: &Slots<Trx>)
+    ensures { len live.now ≤ 33 }
+{
+    let _end = live.session_end();
 }
 
 /// The names of a place have 16 bytes each.

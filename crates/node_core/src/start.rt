@@ -1,18 +1,22 @@
-ghost use Rattle.std.specs.Prelude.{◌≡◌, ◌+◌, ◌<◌, ◌≤◌, ◌^◌, List, [], length, fold, IfOk, IfErr, OnOk, OnErr, IsTrue};
+ghost use Rattle.std.specs.Prelude.{◌≡◌, ◌+◌, ◌<◌, ◌≤◌, ◌^◌, List, [], None, length, fold, IfOk, OnOk, IfErr, OnErr, IsTrue};
 ghost use Rattle.std.specs.Option.{unwrap_or};
+ghost use Rattle.finite_map.specs.FiniteMap.{get};
 
 use crate::answers::Started;
 use crate::node::Node;
+use crate::ranges::{few_live, progress_in_range};
 use apply_unit::Task;
 use bf_abort::{abort, victims};
 use client_trx::Outcome;
 use indexmap::IndexSet;
 use key_sets::KeySet;
-use node_parts::is_local;
+use node_parts::{MessageList, is_local};
+use order_event::Message;
 use row_locks::Holder;
 use row_model::{ImageList, OpList};
 use std::alloc::AllocError;
 use undo_rows::Rows;
+use write_set::encode;
 use wsrep_base::{NoMemory, SessionList};
 
 impl Node {
@@ -20,17 +24,19 @@ impl Node {
     ghost use Rattle.certification.specs.Certifies.{changes_with};
     ghost use Rattle.order_event.specs.declared.event.Event.{Event};
     ghost use Rattle.order_event.specs.declared.step.Answer.TheVariants as answer;
-    ghost use Rattle.node_meaning.specs.Steps.{start_step, kill_session};
+    ghost use Rattle.node_meaning.specs.Steps.{start_step, send_rollback, end_killed};
     ghost use Rattle.node_meaning.specs.Units.{images_of, ops_at, named_rows};
     ghost use Rattle.node_core.specs.Answers.{started_answer, GivesTask};
     ghost use Rattle.node_core.specs.Stands.{IsStanding, Stands, Does, DoneOver, Unchanged, plain_of};
     ghost use Rattle.node_core.specs.Memory.{starts, StartWants};
-    ghost use Rattle.node_core.specs.Starting.{CanStart, IsStartable, IsRefused, IsStartedOver, unit_started, Aborts};
+    ghost use Rattle.node_core.specs.Starting.{CanStart, IsStartable, IsRefused, IsStartedOver, unit_started, with_sent, rollback_message, entered, Aborts};
 
     /// Starts the unit of the passed commit with this number: the transactions whose locks touch
-    /// it are aborted. All memory is taken first; a unit that cannot start yet takes none.
+    /// it are aborted, and a rollback is sent for each that ends and ever sent a fragment. All
+    /// memory is taken first; a unit that cannot start yet takes none.
     pub fn start(&mut self, number: u64) -> Result<Started, NoMemory>
         requires stands { IsStanding self.old }
+        requires serial { self.old.at.serial < 2 ^ 63 }
         ensures ok { IfOk result (λ r. Does (λ order n. start_step order n number) self.old self.new (started_answer number r)) }
         ensures task { IfOk result (λ r. (order : List Event) → Stands order self.old → GivesTask order number r) }
         ensures err { OnErr result (Unchanged self.old self.new) }
@@ -77,6 +83,7 @@ impl Node {
     // Nothing stands in the way of the unit.
     fn start_unit(&mut self, number: u64, keys: KeySet) -> Result<Started, NoMemory>
         requires can { (order : List Event) × CanStart order self.old number keys }
+        requires serial { self.old.at.serial < 2 ^ 63 }
         ensures ok { IfOk result (λ r. (order : List Event) → CanStart order self.old number keys → IsStartedOver order number keys self.old self.new r) }
         ensures err { OnErr result (Unchanged self.old self.new) }
     {
@@ -96,13 +103,17 @@ impl Node {
         rows: usize,
     ) -> Result<SessionList, NoMemory>
         requires can { (order : List Event) × CanStart order self.old number keys }
+        requires serial { self.old.at.serial < 2 ^ 63 }
         ensures ok { IfOk result (λ aborted. (order : List Event) → CanStart order self.old number keys → rows ≡ length (named_rows (ops_at order number)) → DoneOver order (unit_started number keys) self.old self.new (answer.Started number aborted)) }
         ensures err { OnErr result (Unchanged self.old self.new) }
     {
+        progress_in_range(&self.at);
+        few_live(&self.live);
         let list = keys.sorted()?;
         let aborted = victims(&self.locks, &keys)?;
+        let sent = self.rollbacks(aborted.as_slice())?;
         self.reserve_unit(list.len(), rows)?;
-        self.units.insert(number, keys, rows)?;
+        self.enter(number, keys, rows, sent)?;
         self.kill_all(number, aborted.as_slice());
         self.locks.hold(Holder::Unit(number), list.as_slice());
         Ok(aborted)
@@ -133,6 +144,66 @@ impl Node {
         Ok(images)
     }
 
+    // The rollbacks that the ends of these sessions' transactions leave, from the next serial on.
+    fn rollbacks(&self, sessions: &[u8]) -> Result<MessageList, NoMemory>
+        requires serial { self.now.at.serial < 2 ^ 63 }
+        ensures sent { IfOk result (λ sent. fold send_rollback (plain_of self.now) sessions.now
+            ≡ with_sent (plain_of self.now) sent.items) }
+        ensures few { IfOk result (λ sent. length sent.items < 2 ^ 63) }
+    {
+        let mut sent = MessageList::new(self.alloc);
+        for session in sessions {
+            let serial = self.at.serial + sent.len() as u64;
+            if let Some(message) = self.rollback_of(*session, serial)? {
+                sent.push_back(message)?;
+            }
+        }
+        Ok(sent)
+    }
+
+    // The rollback with this serial that the end of the session's transaction leaves, if any.
+    fn rollback_of(&self, session: u8, serial: u64) -> Result<Option<Message>, NoMemory>
+        ensures { IfOk result (λ message. message
+            ≡ rollback_message (get self.now.live session) serial self.now.at.committed) }
+    {
+        let Some(trx) = self.live.get(session) else {
+            return Ok(None);
+        };
+        match trx.rollback_due(serial, self.at.committed)? {
+            Some(set) => Ok(Some(Message::Write(encode(self.alloc, &set)?))),
+            None => Ok(None),
+        }
+    }
+
+    // The unit is entered and the messages are sent, or neither.
+    fn enter(
+        &mut self,
+        number: u64,
+        keys: KeySet,
+        rows: usize,
+        sent: MessageList,
+    ) -> Result<(), NoMemory>
+        requires absent { get self.old.units.units number ≡ None }
+        requires small { self.old.units.room + rows < 2 ^ 63 }
+        requires serial { self.old.at.serial + length sent.items < 2 ^ 64 }
+        ensures ok { OnOk result (self.new ≡ entered self.old number keys rows sent.items) }
+        ensures err { OnErr result (self.new ≡ self.old) }
+    {
+        let count = sent.len() as u64;
+        let waiting = self.queue.outbox_len();
+        self.queue.append(sent)?;
+        match self.units.insert(number, keys, rows) {
+            Ok(()) => {
+                self.at.serial += count;
+                Ok(())
+            }
+            Err(refused) => {
+                self.queue.keep(waiting);
+                Err(refused)
+            }
+        }
+    }
+
     // Makes room for the keys and the rows of a unit. No allocation is larger than isize::MAX.
     fn reserve_unit(&mut self, keys: usize, rows: usize) -> Result<(), NoMemory>
         ensures keys { OnOk result (keys ≤ self.new.locks.spare) }
@@ -161,7 +232,7 @@ impl Node {
 
     // The unit aborts the transactions of all these sessions.
     fn kill_all(&mut self, number: u64, sessions: &[u8])
-        ensures { Aborts (λ n. fold (kill_session number) n sessions.now) self.old self.new }
+        ensures { Aborts (λ n. fold (end_killed number) n sessions.now) self.old self.new }
     {
         for session in sessions {
             self.kill(number, *session);
@@ -170,7 +241,7 @@ impl Node {
 
     // The unit aborts the session's transaction.
     fn kill(&mut self, number: u64, session: u8)
-        ensures { Aborts (λ n. kill_session number n session) self.old self.new }
+        ensures { Aborts (λ n. end_killed number n session) self.old self.new }
     {
         let Some(mut trx) = self.live.take(session) else {
             return;

@@ -18,6 +18,7 @@ start_unit-requires c = record {
     (subst (IsStartable c.requires.stands.0 c.args.self.now c.args.number) (sym c.in_ok-keys-in-Ok.ensures)
         (c.in-Ok.ensures.ok c.requires.stands.0 c.requires.stands.1)).can,
   );
+  serial = c.requires.serial;
 }
 
 pub returns-clause-ok : goal.returns-clause-ok
