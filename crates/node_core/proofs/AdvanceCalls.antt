@@ -1,11 +1,11 @@
 -- Committing the next number does what the model does.
 use Rattle.std.proofs.Common.{◌≡◌, ℕ, ◌+◌, ◌≤◌, ◌<◌, Bool, true, false, cond, List, [], length, take, drop, Option, None, Some, refl, ap, sym, subst, ◌∙◌, arith}
 use Rattle.std.specs.Prelude.{◌==◌, ◌||◌, not, is_some, is_none}
-use Rattle.std.specs.Ordering.{nat_cmp, eq_by_cmp}
+use Rattle.std.specs.Ordering.{nat_cmp}
 use Rattle.std.specs.Cmp.{nat_cmp_total}
 use Rattle.std.proofs.lemmas.Bool.{eqb-true, eq-eqb, false_from_ne_true}
 use Rattle.std.proofs.lemmas.Option.{same_Some}
-use Rattle.finite_map.proofs.Edits.{numbers, left, tied, untied}
+use Rattle.finite_map.proofs.Edits.{numbers, left}
 use Rattle.finite_map.specs.FiniteMap.{FiniteMap, get, insert, remove, get-remove}
 use Rattle.row_model.specs.declared.calls.Reply.TheVariants as reply
 use Rattle.row_model.specs.Rows.{Rows, ops_on}
@@ -29,7 +29,6 @@ use Rattle.node_meaning.specs.declared.progress.Stage.TheVariants as stage
 use Rattle.node_meaning.specs.Steps.{is_certified_at, is_replaying_at, is_local, is_finished, committer_of, told_committed, committed_next, is_ready, advance_step}
 use Rattle.node_meaning.specs.Units.{ops_at, unit_task}
 use Rattle.node_meaning.proofs.EntryLaws.{less_from, some_not_none}
-use Rattle.node_meaning.proofs.PassedLaws.{numbered_within, passed-is}
 use Rattle.node_meaning.proofs.LockLaws.{locks_of-remove, locks_of-remove_unit}
 use Rattle.node_meaning.proofs.UnitLaws.{rows-event, rows-committer, task-unit}
 use Rattle.node_meaning.proofs.AdvanceFacts.{committer_there, commits_at, rows-none, committer-none, not_local, unit-finished, units-local}

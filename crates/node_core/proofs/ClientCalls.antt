@@ -1,10 +1,10 @@
 -- What the client calls of a node leave of it.
-use Rattle.std.proofs.Common.{◌≡◌, ◌≤◌, ◌<◌, ℕ, zero, suc, ◌+◌, Bool, true, false, cond, ◌&&◌, List, [], ◌∷◌, length, take, drop, refl, sym, ap, subst, ◌∙◌, arith, true≢false}
+use Rattle.std.proofs.Common.{◌≡◌, ◌≤◌, ℕ, zero, suc, Bool, true, false, cond, ◌&&◌, List, [], ◌∷◌, length, take, drop, refl, sym, ap, subst, ◌∙◌, arith, true≢false}
 use Rattle.std.proofs.Math.Dec.{eqb-suc-zero}
 use Rattle.std.specs.Prelude.{Option, Some, None, Result, Ok, Err, OnErr, is_some, not, nat_lt, ◌==◌, IsTrue}
 use Rattle.std.specs.Ordering.{nat_cmp}
 use Rattle.finite_map.proofs.Edits.{numbers, remove-absent, insert-remove}
-use Rattle.finite_map.specs.FiniteMap.{FiniteMap, get, insert, remove, contains_key, empty, len-empty}
+use Rattle.finite_map.specs.FiniteMap.{FiniteMap, get, insert, remove, empty, len-empty}
 use Rattle.key_sets.specs.Parts.{parts_cmp}
 use Rattle.key_sets.specs.declared.kind.Kind.{Kind}
 use Rattle.row_model.specs.declared.calls.Reply.{Reply}

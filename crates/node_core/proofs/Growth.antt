@@ -1,5 +1,5 @@
 -- A node that stands for an order stands for every order that goes on from it.
-use Rattle.std.proofs.Common.{◌≡◌, ℕ, zero, suc, ◌≤◌, List, [], ◌∷◌, ◌++◌, length, Some, refl, sym, ap, subst, ◌∙◌, arith, drop}
+use Rattle.std.proofs.Common.{◌≡◌, ℕ, zero, suc, ◌≤◌, List, ◌++◌, length, Some, sym, ap, subst, ◌∙◌, arith, drop}
 use Rattle.std.proofs.lemmas.List.{take-append-le}
 use Rattle.order_event.specs.declared.event.Event.{Event}
 use Rattle.apply_unit.specs.Task.{task}

@@ -1,5 +1,5 @@
 -- The facts of a node go along with each call, as what the model does keeps them.
-use Rattle.std.proofs.Common.{◌≡◌, ℕ, false, List, Option, None, Some, ap, sym, subst}
+use Rattle.std.proofs.Common.{◌≡◌, ℕ, false, List, None, Some, ap, sym, subst}
 use Rattle.std.specs.Prelude.{not}
 use Rattle.finite_map.specs.FiniteMap.{get, remove}
 use Rattle.key_sets.specs.Keys.{Keys}
@@ -8,7 +8,7 @@ use Rattle.order_event.specs.declared.event.Event.{Event}
 use Rattle.order_event.specs.declared.step.Answer.{Answer}
 use Rattle.client_trx.specs.Live.{Live, is_running}
 use Rattle.node_meaning.specs.Node.{ModelNode, end_live}
-use Rattle.node_meaning.specs.Client.{Statement, begin_call, statement, commit_call, rollback_call, is_pending}
+use Rattle.node_meaning.specs.Client.{Statement, begin_call, statement, commit_call, rollback_call}
 use Rattle.node_meaning.specs.Steps.{take_step, certify_step, finish_step, advance_step}
 use Rattle.node_meaning.specs.Facts.{Facts, ProgressInRange}
 use Rattle.node_meaning.proofs.ClientFacts.{StatementFits}

@@ -1,5 +1,5 @@
 -- What aborting a session's transaction leaves of the parts of a node.
-use Rattle.std.proofs.Common.{◌≡◌, ℕ, ◌+◌, ◌≤◌, ◌<◌, true, false, cond, List, length, take, fold, get_or, refl, sym, ap, subst, ◌∙◌, arith}
+use Rattle.std.proofs.Common.{◌≡◌, ℕ, ◌+◌, ◌≤◌, ◌<◌, false, cond, List, length, take, fold, get_or, refl, sym, ap, subst, ◌∙◌, arith}
 use Rattle.std.specs.Prelude.{Some, None, ◌&&◌}
 use Rattle.std.proofs.lemmas.List.Sums.{fold_more}
 use Rattle.std.specs.Ordering.{nat_cmp}
@@ -17,7 +17,7 @@ use Rattle.row_locks.specs.Locks.{LockState}
 use Rattle.row_locks.specs.Alike.{HoldAlike}
 use Rattle.row_locks.proofs.AlikeLaws.{alike_between, alike-remove}
 use Rattle.undo_rows.specs.RowTable.{RowTable, without}
-use Rattle.node_parts.proofs.MapLaws.{same, removed_absent}
+use Rattle.node_parts.proofs.MapLaws.{removed_absent}
 use Rattle.node_meaning.specs.Node.{ModelNode, locks_of}
 use Rattle.node_meaning.specs.Steps.{told, ended_session, end_killed}
 use Rattle.node_meaning.proofs.LockLaws.{lock_keys, locks_of-remove, locks_of-unlocked}

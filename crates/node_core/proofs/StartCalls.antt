@@ -1,10 +1,9 @@
 -- Starting a unit: which step it is by what was read, and the task that it gives.
-use Rattle.std.proofs.Common.{◌≡◌, ℕ, ◌≤◌, ◌<◌, Bool, true, false, cond, List, [], ◌∷◌, length, Option, Some, None, Result, Ok, Err, refl, sym, ap, subst, ◌∙◌, arith, true≢false, lt-ltb, eqb-true}
-use Rattle.std.specs.Prelude.{OnErr, IfOk, IfErr, is_ok, is_some, nat_lt, ◌==◌, ◌&&◌, map, unwrap_or}
-use Rattle.std.specs.List.{filter}
+use Rattle.std.proofs.Common.{◌≡◌, ℕ, ◌≤◌, ◌<◌, Bool, true, false, cond, List, [], length, Option, Some, None, Result, Ok, Err, refl, sym, ap, ◌∙◌, arith, true≢false}
+use Rattle.std.specs.Prelude.{OnErr, IfOk, IfErr, is_ok, is_some, unwrap_or}
 use Rattle.finite_map.specs.FiniteMap.{get}
 use Rattle.wsrep_base.specs.Trx.{greatest}
-use Rattle.key_sets.specs.Keys.{Keys, touches}
+use Rattle.key_sets.specs.Keys.{Keys}
 use Rattle.row_model.specs.declared.ops.Op.{Op}
 use Rattle.order_event.specs.declared.event.Event.{Event}
 use Rattle.order_event.specs.declared.step.Answer.{Answer}

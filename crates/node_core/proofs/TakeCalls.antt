@@ -9,7 +9,6 @@ use Rattle.order_event.specs.declared.step.Answer.{Answer}
 use Rattle.order_event.specs.declared.step.Answer.TheVariants as answer
 use Rattle.node_meaning.specs.Node.{ModelNode, is_connected}
 use Rattle.node_meaning.specs.Steps.{take_step, take_event, took, unqueued, is_write, is_report, is_this_write, without_first}
-use Rattle.node_meaning.specs.Facts.{Facts}
 use Rattle.node_parts.specs.Queue.{Queued, taken as without_oldest}
 use Rattle.node_core.specs.declared.node.Node.{Node}
 use Rattle.node_core.specs.declared.answers.Taken.{Taken}

@@ -1,8 +1,6 @@
 -- A statement that nothing hinders but its transaction's size.
-use Rattle.std.proofs.Common.{◌≡◌, ◌≤◌, sym, ap, subst, ◌∙◌, arith}
+use Rattle.std.proofs.Common.{◌≤◌, sym, ap, subst, ◌∙◌, arith}
 use Rattle.finite_map.specs.FiniteMap.{get}
-use Rattle.client_trx.specs.declared.status.Added.{Added}
-use Rattle.client_trx.specs.declared.status.Added.TheVariants as added
 use Rattle.client_trx.specs.Live.{add_by}
 use Rattle.node_meaning.specs.Node.{ModelNode}
 use Rattle.node_meaning.specs.Client.{is_pending, statement}

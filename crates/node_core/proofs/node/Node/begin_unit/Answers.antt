@@ -1,10 +1,10 @@
-use Rattle.std.proofs.Common.{fold, sym, subst, ◌≡◌, ◌∙◌}
+use Rattle.std.proofs.Common.{fold, subst, ◌≡◌, ◌∙◌}
 use Rattle.row_locks.specs.declared.holder.Holder.TheVariants.{Unit as UnitHolder}
 use Rattle.row_locks.specs.Alike.{HoldAlike, with_held}
 use Rattle.node_meaning.specs.Steps.{send_rollback, end_killed}
 use Rattle.node_core.specs.declared.node.Node.{Node}
 use Rattle.node_core.specs.Stands.{plain_of}
-use Rattle.node_core.specs.Starting.{Aborts, with_sent, entered}
+use Rattle.node_core.specs.Starting.{Aborts, with_sent}
 use Rattle.node_core.proofs.BeginCalls.{begin_done, can_take_back}
 use Rattle.node_core.proofs.node.Node.begin_unit.Goals as goal
 

@@ -1,6 +1,4 @@
 -- The transaction that was taken out is put back, with more or as it was.
-use Rattle.std.proofs.Common.{ap, ◌∙◌}
-use Rattle.finite_map.specs.FiniteMap.{insert}
 use Rattle.node_core.proofs.Statements.{ok_map, err_map, extended_told, put_back}
 use Rattle.node_core.proofs.node.Node.extend.Goals as goal
 

@@ -1,6 +1,5 @@
 -- The rollback that is due is sent, and the live transaction ends.
-use Rattle.std.proofs.Common.{sym, ap, ◌∙◌}
-use Rattle.client_trx.specs.Live.{Live, rollback_due}
+use Rattle.std.proofs.Common.{sym}
 use Rattle.node_core.proofs.ClientCalls.{rolled_back, sends_back, same_unchanged, where_err}
 use Rattle.node_core.proofs.node.Node.roll_back.Goals as goal
 
