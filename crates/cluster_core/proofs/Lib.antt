@@ -1,5 +1,6 @@
 pub mod ActLaws
 pub mod CountedLaws
 pub mod DrainLaws
+pub mod DrainSerials
 pub mod RunLaws
 pub mod SeatLaws

@@ -1,26 +1,24 @@
 -- A seat after a step of its node, and under an order that grows.
-use Rattle.std.proofs.Common.{◌≡◌, ℕ, ◌≤◌, ◌<◌, Bool, true, false, cond, List, [], ◌++◌, Result, Ok, Err, length, Option, None, Some, refl, sym, ap, subst, ◌∙◌, arith}
-use Rattle.std.specs.Prelude.{◌==◌, IsTrue, is_some, OnErr}
+use Rattle.std.proofs.Common.{◌≡◌, ℕ, ◌<◌, Bool, true, false, cond, List, [], ◌++◌, Result, Ok, Err, None, Some, refl, sym, ap, subst, ◌∙◌}
+use Rattle.std.specs.Prelude.{◌==◌, IsTrue, OnErr}
 use Rattle.std.proofs.lemmas.Bool.{eqb-true, eq-eqb}
 use Rattle.std.specs.Ordering.{nat_cmp, eq_by_cmp}
 use Rattle.std.specs.Cmp.{nat_cmp_total}
 use Rattle.std.proofs.lemmas.Option.{same_Some}
 use Rattle.finite_map.proofs.Edits.{numbers, tied, itself}
 use Rattle.finite_map.specs.FiniteMap.{FiniteMap, get, insert, get-insert, get-empty}
-use Rattle.row_model.specs.declared.ops.Op.{Op}
-use Rattle.row_model.specs.Rows.{Rows}
 use Rattle.row_model.specs.declared.calls.Call.{Call}
 use Rattle.row_model.specs.declared.calls.Reply.{Reply}
 use Rattle.key_sets.specs.Keys.{Keys}
-use Rattle.apply_unit.specs.Task.{ModelTask, task}
+use Rattle.apply_unit.specs.Task.{ModelTask}
 use Rattle.order_event.specs.declared.event.Event.{Event}
 use Rattle.order_event.specs.declared.step.Act.TheVariants as act
 use Rattle.order_event.specs.declared.step.Answer.{Answer}
 use Rattle.order_event.specs.declared.step.Answer.TheVariants as answer
 use Rattle.node_meaning.specs.declared.progress.Stage.TheVariants.{Started as StartedStage}
-use Rattle.node_meaning.specs.Node.{ModelNode, ApplyUnit, rows_at, start_node}
+use Rattle.node_meaning.specs.Node.{ModelNode, ApplyUnit, start_node}
 use Rattle.node_meaning.specs.Client.{client}
-use Rattle.node_meaning.specs.Units.{ops_at, unit_task, images_of}
+use Rattle.node_meaning.specs.Units.{unit_task}
 use Rattle.node_meaning.specs.Steps.{start_step, finish_step, take_step, certify_step, advance_step, node_step}
 use Rattle.node_core.specs.declared.node.Node.{Node}
 use Rattle.node_core.specs.declared.answers.Started.{Started}

@@ -2,11 +2,12 @@ ghost use Rattle.std.specs.Prelude.{◌≡◌, ◌≤◌, ◌+◌, length, IfOk,
 ghost use Rattle.order_event.specs.declared.step.Act.TheVariants as act;
 ghost use Rattle.node_meaning.specs.Cluster.{node_orders};
 ghost use Rattle.node_core.specs.Stands.{plain_of};
+ghost use Rattle.node_laws.specs.Given.{CanGoOn};
 ghost use Rattle.cluster_core.specs.declared.fault.StepFault.TheVariants as fault;
 ghost use Rattle.cluster_core.specs.Seated.{IsSomewhere};
 ghost use Rattle.cluster_core.specs.Steps.{HasGroupCause};
 ghost use Rattle.cluster_core.specs.Acts.{IsKept, Acted, Failed};
-ghost use Rattle.cluster_core.specs.Drain.{Sent, SentFew, Takes, TakesFew, Certifies, CertifiesFew, Commits, CommitsFew, IsSomewhereShort};
+ghost use Rattle.cluster_core.specs.Drain.{Sent, SentFew, Takes, TakesFew, Certifies, CertifiesFew, Commits, CommitsFew, IsSomewhereShort, HasSerials};
 
 use crate::fault::StepFault;
 use crate::seat::Seat;
@@ -20,6 +21,7 @@ use wsrep_base::NoMemory;
 pub(crate) fn drain<G: Group>(seat: &mut Seat, group: &mut G) -> Result<Answer, StepFault>
     requires kept { IsKept (G.order group.old) seat.old }
     requires events { length (G.order group.old) + node_orders act.Drain (plain_of seat.old.node) ≤ 500_000 }
+    requires counts { CanGoOn (plain_of seat.old.node) }
     ensures ok { IfOk result (Acted act.Drain (G.order group.old) (G.order group.new) seat.old seat.new) }
     ensures err { IfErr result (Failed act.Drain (G.order group.old) (G.order group.new) seat.old seat.new) }
     ensures cause { HasGroupCause (G.faults group.old) (G.faults group.new) result }
@@ -79,6 +81,7 @@ fn certify_all(seat: &mut Seat, count: u64) -> Result<(), NoMemory>
 // So many numbers are committed.
 fn commit_all(seat: &mut Seat, count: u64) -> Result<(), NoMemory>
     requires seated { IsSomewhereShort seat.old }
+    requires serials { HasSerials seat.old }
     ensures ok { OnOk result (Commits count seat.old seat.new) }
     ensures err { OnErr result (CommitsFew count seat.old seat.new fault.NoMemory) }
 {
@@ -91,6 +94,7 @@ fn commit_all(seat: &mut Seat, count: u64) -> Result<(), NoMemory>
 // The next number is committed, its unit started and finished where it has one.
 fn commit_one(seat: &mut Seat) -> Result<(), NoMemory>
     requires seated { IsSomewhereShort seat.old }
+    requires serials { HasSerials seat.old }
     ensures ok { OnOk result (Commits 1 seat.old seat.new) }
     ensures err { OnErr result (CommitsFew 1 seat.old seat.new fault.NoMemory) }
 {

@@ -91,6 +91,7 @@ impl Seat {
     /// The unit of the commit with this number is started, and its work done.
     pub(crate) fn start(&mut self, number: u64) -> Result<Answer, NoMemory>
         requires seated { IsSomewhere self.old }
+        requires serial { self.old.node.at.serial < 2 ^ 63 }
         ensures ok { IfOk result
             (SeatDoes (λ order n. node_step order n (act.Start number)) self.old self.new) }
         ensures err { OnErr result (SeatUnchanged self.old self.new) }

@@ -2,11 +2,16 @@
 use Rattle.std.proofs.Common.{arith}
 use Rattle.cluster_core.specs.declared.fault.StepFault.TheVariants as fault
 use Rattle.cluster_core.proofs.SeatLaws.{on_err}
+use Rattle.cluster_core.proofs.DrainSerials.{committed_serials}
 use Rattle.cluster_core.proofs.DrainLaws.{part_none, commit_more, commit_fails}
 use Rattle.cluster_core.proofs.drain.commit_all.Goals as goal
 
 pub loop-init : goal.loop-init
 loop-init c order s = part_none order c.args.seat.now s
+
+pub commit_one-requires-clause-serials : goal.commit_one-requires-clause-serials
+commit_one-requires-clause-serials c =
+    committed_serials c.args.seat.now c.loop.seat c.loop.counter c.requires.seated.0 c.requires.seated.1 c.loop.invariant c.requires.serials
 
 pub loop-preserved : goal.loop-preserved
 loop-preserved c order s =

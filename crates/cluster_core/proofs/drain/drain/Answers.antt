@@ -5,6 +5,7 @@ use Rattle.order_event.specs.declared.step.Answer.TheVariants as answer
 use Rattle.cluster_core.specs.declared.fault.StepFault.TheVariants as fault
 use Rattle.cluster_core.specs.Acts.{Acted, Failed}
 use Rattle.cluster_core.proofs.ActLaws.{err_by}
+use Rattle.cluster_core.proofs.DrainSerials.{sent_serials, taken_serials, certified_serials}
 use Rattle.cluster_core.proofs.DrainLaws.{drain_not_sent, drain_not_taken, drain_not_certified, drain_not_committed, drain_done, sent_whole}
 use Rattle.cluster_core.proofs.drain.drain.Goals as goal
 
@@ -16,6 +17,11 @@ commit_all-requires g c = record {
     sent_whole c.place-waiting.result.outbox (g.G.Group.order c.args.group.now) (g.G.Group.order c.order_all.new.group) c.args.seat.now c.order_all.new.seat
         c.in_ok-order_all.ensures.ok c.requires.events,
   );
+  serials =
+      let order = g.G.Group.order c.order_all.new.group in
+      certified_serials c.take_all.new.seat c.certify_all.new.seat _ order c.in_ok-take_all.ensures.ok.seated c.in_ok-certify_all.ensures.ok
+      (taken_serials c.order_all.new.seat c.take_all.new.seat _ order c.in_ok-take_all.ensures.ok
+      (sent_serials c.args.seat.now c.order_all.new.seat _ _ order c.in_ok-order_all.ensures.ok c.requires.counts.serial));
 }
 
 pub returns-in_err-order_all-clause-err : goal.returns-in_err-order_all-clause-err

@@ -1,7 +1,14 @@
 -- What the step does to the one seat it does to the cluster.
+use Rattle.node_core.specs.Stands.{plain_of}
 use Rattle.cluster_core.specs.Acts.{Acted}
-use Rattle.cluster_core.proofs.ActLaws.{item_there, step_done, step_failed, kept_set, if_ok, if_err, goes_by}
+use Rattle.cluster_core.proofs.ActLaws.{item_there, at_nodes, step_done, step_failed, kept_set, if_ok, if_err, goes_by}
 use Rattle.cluster_core.proofs.steps.step_at.Goals as goal
+
+pub step_on-requires-clause-counts : goal.step_on-requires-clause-counts
+step_on-requires-clause-counts g c =
+    let seat = c.index_mut.result.now in
+    let there = item_there c.args.seats.now.items c.args.at seat c.requires.at c.index_mut.ensures.value in
+    c.requires.counts (plain_of seat.node) (at_nodes c.args.seats.now.items c.args.at seat there)
 
 pub returns-clause-ok : goal.returns-clause-ok
 returns-clause-ok g c =

@@ -1,11 +1,15 @@
 -- More room for work changes no look-up, and the work of a unit that was started is kept.
-use Rattle.std.proofs.Common.{subst, refl}
+use Rattle.std.proofs.Common.{◌<◌, ◌^◌, subst, sym, refl}
 use Rattle.order_event.specs.declared.step.Act.TheVariants as act
 use Rattle.node_meaning.specs.Node.{ModelNode}
 use Rattle.node_meaning.specs.Steps.{node_step}
 use Rattle.node_core.specs.Memory.{StartWants}
 use Rattle.cluster_core.proofs.SeatLaws.{unchanged, then_unchanged, then_done, start_does, room_there, on_err}
 use Rattle.cluster_core.proofs.seat.Seat.start.Goals as goal
+
+pub start-requires-clause-serial : goal.start-requires-clause-serial
+start-requires-clause-serial c =
+    subst (λ (n : ModelNode). n.at.serial < 2 ^ 63) (sym c.make_room.ensures.same.plain) c.requires.serial
 
 pub keep-requires : goal.keep-requires
 keep-requires c =
