@@ -18,8 +18,8 @@ nodes_given (n ∷ ns) = max (node_given n) (nodes_given ns)
 unfoldable pub given : ModelCluster → ℕ
 given c = max (cluster_size c) (nodes_given c.nodes)
 
--- the names of a node's next transaction, and of a next write set and one for each live transaction,
--- are within their types
+-- the names of a node's next transaction, and of a next write set and one for each live
+-- transaction, are within their types
 pub record CanGoOn (n : ModelNode) : Type 0 where
   pub serial : n.at.serial + len n.live < 2 ^ 63
   pub begin : n.at.begin < 2 ^ 63
