@@ -11,6 +11,7 @@ pub mod OpenLemmas
 pub mod ScanLemmas
 pub mod HalvesLemmas
 pub mod WholeLemmas
+pub mod UnionLemmas
 pub mod PutLemmas
 pub mod CoveredLaws
 pub mod OpenLaws

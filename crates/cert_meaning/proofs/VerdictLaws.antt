@@ -140,3 +140,9 @@ pub commit_fits : (s : FoldState) (member : ℕ) (w : WriteSet) → judged_as w 
     → len (whole_keys (fragments_of s (trx_of w)) w.keys) ≤ LIMIT
 commit_fits s member w commits =
     (taken-passed s member w (subst (λ (j : Judged). IsTaken (effect_of j)) (sym commits) tt)).fits
+
+-- nor has a fragment that passes, with those before it
+pub fragment_fits : (s : FoldState) (member : ℕ) (w : WriteSet) → judged_as w (verdict s member w) ≡ became.Fragment
+    → len (whole_keys (fragments_of s (trx_of w)) w.keys) ≤ LIMIT
+fragment_fits s member w adds =
+    (taken-passed s member w (subst (λ (j : Judged). IsTaken (effect_of j)) (sym adds) tt)).fits

@@ -5,11 +5,13 @@ use Rattle.std.proofs.lemmas.Bool.{le-ltb}
 use Rattle.std.proofs.lemmas.List.Sums.{fold-append}
 use Rattle.std.proofs.Math.Facts.{leb_yes, yes_leb}
 use Rattle.std.proofs.Math.Dec.{eqb→eq}
-use Rattle.finite_map.specs.FiniteMap.{empty, len}
+use Rattle.finite_map.specs.FiniteMap.{empty, len, len-empty}
+use Rattle.key_sets.specs.declared.kind.Kind.{Kind}
+use Rattle.key_sets.specs.Parts.{parts_cmp}
 use Rattle.key_sets.specs.Keys.{Keys, LIMIT, union}
 use Rattle.key_sets.proofs.UnionLaws.{len-union-left, union-symm, union-empty}
 use Rattle.cert_meaning.specs.State.{Fragment, fragment_keys, whole_keys}
-use Rattle.cert_meaning.specs.Whole.{within}
+use Rattle.cert_meaning.specs.Whole.{within, KeepsKeys}
 
 -- the keys of one fragment more
 pub fragment_keys-more : (front : List Fragment) (fragment : Fragment)
@@ -83,3 +85,31 @@ pub few-alone : (fragments : List Fragment) (keys : Keys) → length fragments =
 few-alone fragments keys none few =
     ap (λ fs. nat_lt LIMIT (len (whole_keys fs keys))) (no_fragments fragments none)
     ∙ ap (λ ks. nat_lt LIMIT (len ks)) (whole_keys-alone keys) ∙ le-ltb LIMIT (len keys) few
+
+-- keys of some set, where that is not too large
+within-some : (keys all : Keys) → within keys ≡ Some all → (all ≡ keys) × (len keys ≤ LIMIT)
+within-some keys all is = by (nat_le (len keys) LIMIT) refl is
+  where
+    by : (b : Bool) → nat_le (len keys) LIMIT ≡ b → cond b (Some keys) None ≡ Some all → (all ≡ keys) × (len keys ≤ LIMIT)
+    by true few some = (cc, leb_yes (subst T (sym few) tt))
+    by false few none = cc
+
+-- no fragment has no key
+pub keeps-none : KeepsKeys [] None
+keeps-none = let none : len (fragment_keys []) ≡ 0 = len-empty parts_cmp Kind in (omega (arith, none), tt)
+
+none_more : (fragments : List Fragment) (none : Keys) → none ≡ empty → whole_keys fragments none ≡ fragment_keys fragments
+none_more fragments none is = ap (whole_keys fragments) is ∙ union-empty (fragment_keys fragments)
+
+-- keys that were joined, with none more, are all that the fragments have
+pub keeps-joined : (fragments : List Fragment) (none keys : Keys) → none ≡ empty → within (whole_keys fragments none) ≡ Some keys
+    → KeepsKeys fragments (Some keys)
+keeps-joined fragments none keys is some =
+    let found = within-some (whole_keys fragments none) keys some in
+    let same = none_more fragments none is in
+    (subst (λ (all : Keys). len all ≤ LIMIT) same found.1, found.0 ∙ same)
+
+-- fragments that have not too many keys can be joined
+pub joined-within : (fragments : List Fragment) (none : Keys) → none ≡ empty → len (fragment_keys fragments) ≤ LIMIT
+    → within (whole_keys fragments none) ≡ Some (fragment_keys fragments)
+joined-within fragments none is few = ap within (none_more fragments none is) ∙ within-few (fragment_keys fragments) few

@@ -54,7 +54,8 @@ pub(crate) fn is_too_large(
     fragments: &[Fragment],
     keys: &KeySet,
 ) -> Result<bool, NoMemory>
-    ensures { IfOk result (λ large. large ≡ nat_lt LIMIT (len (whole_keys fragments.now keys.now))) }
+    ensures { IfOk result
+        (λ large. large ≡ nat_lt LIMIT (len (whole_keys fragments.now keys.now))) }
 {
     // The keys of one write set are few as in every set: nothing is joined.
     if fragments.is_empty() && keys.len() <= KeySet::LIMIT {
@@ -64,9 +65,9 @@ pub(crate) fn is_too_large(
     Ok(whole.is_none())
 }
 
-// Adds the keys of the other set. False, with some of them added, where the union passes what a
-// set may have.
-fn add_all(all: &mut KeySet, keys: &KeySet) -> Result<bool, NoMemory>
+/// Adds the keys of the other set. False, with some of them added, where the union passes what a
+/// set may have.
+pub(crate) fn add_all(all: &mut KeySet, keys: &KeySet) -> Result<bool, NoMemory>
     ensures full { IfOk result (λ fits. fits ≡ false → LIMIT < len (union all.old keys.now)) }
     ensures all { IfOk result (λ fits. fits ≡ true → all.new ≡ union all.old keys.now) }
 {

@@ -31,6 +31,15 @@ pub struct Fragment {
 /// The passed fragments of a transaction, oldest first.
 pub type FragmentList = ItemList<Fragment>;
 
+/// All that the fragments of a transaction have.
+#[derive(Debug, Drop)]
+pub struct Whole {
+    /// The union of their keys.
+    pub keys: KeySet,
+    /// Their changes, in order.
+    pub ops: OpList,
+}
+
 /// What became of events, in their order.
 pub type JudgedList = ItemList<Judged>;
 

@@ -2,6 +2,7 @@
 #![tactic(auto)]
 
 mod fragments;
+mod gathered;
 mod items;
 mod judging;
 mod laws;
@@ -12,8 +13,9 @@ mod row_table;
 mod search;
 mod sets;
 mod state;
+mod unions;
 
-pub use items::{CommitItem, CommitList, Fragment, FragmentList, JudgedList, Told};
+pub use items::{CommitItem, CommitList, Fragment, FragmentList, JudgedList, Told, Whole};
 pub use judging::verdicts;
 pub use laws::fold_laws;
 pub use members::Standing;

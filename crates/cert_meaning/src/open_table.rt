@@ -1,13 +1,17 @@
-ghost use Rattle.std.specs.Prelude.{◌≡◌, ◌++◌, ◌∷◌, [], is_some, unwrap_or, OnOk, OnErr};
+ghost use Rattle.std.specs.Prelude.{◌≡◌, ◌≤◌, ◌++◌, ◌∷◌, [], is_some, unwrap_or, OnOk, OnErr};
+ghost use Rattle.std.specs.Option.{option_copied};
 ghost use Rattle.finite_map.specs.FiniteMap.{empty, get, insert, len, remove, retain_keys};
-ghost use Rattle.cert_meaning.specs.State.{fragments_but};
+ghost use Rattle.key_sets.specs.Keys.{LIMIT};
+ghost use Rattle.cert_meaning.specs.State.{fragments_but, whole_keys};
 ghost use Rattle.cert_meaning.specs.Verdict.{greatest_touching};
 ghost use Rattle.cert_meaning.specs.Fold.{is_of};
 
 mod parts;
+mod whole;
 
 use crate::fragments::greatest_touching;
-use crate::items::{Fragment, FragmentList};
+use crate::gathered::Gathered;
+use crate::items::Fragment;
 use key_sets::KeySet;
 use std::alloc::Global;
 use std::collections::BTreeMap;
@@ -17,7 +21,7 @@ use wsrep_base::{NoMemory, TrxId};
 /// The open transactions, each with its passed fragments.
 #[derive(Drop)]
 pub(crate) struct OpenTable {
-    open: BTreeMap<TrxId, FragmentList>,
+    open: BTreeMap<TrxId, Gathered>,
 }
 
 impl Model for OpenTable {
@@ -57,10 +61,17 @@ impl OpenTable {
     pub(crate) fn fragments(&self, trx: TrxId) -> &[Fragment]
         ensures { result.now ≡ unwrap_or (get self.now trx) [] }
     {
-        match self.open.get(&trx) {
-            Some(fragments) => fragments.as_slice(),
+        match self.gathered(trx) {
+            Some(gathered) => gathered.fragments(),
             None => &[],
         }
+    }
+
+    // The transaction, where it is open.
+    fn gathered(&self, trx: TrxId) -> Option<&Gathered>
+        ensures { option_copied result ≡ get self.now trx }
+    {
+        self.open.get(&trx)
     }
 
     /// Adds a fragment to its transaction, which then is open.
@@ -70,15 +81,17 @@ impl OpenTable {
         trx: TrxId,
         fragment: Fragment,
     ) -> Result<(), NoMemory>
-        ensures ok { OnOk result (self.new ≡ insert self.old trx (unwrap_or (get self.old trx) [] ++ fragment ∷ [])) }
+        requires { len (whole_keys (unwrap_or (get self.old trx) []) fragment.keys) ≤ LIMIT }
+        ensures ok { OnOk result
+            (self.new ≡ insert self.old trx (unwrap_or (get self.old trx) [] ++ fragment ∷ [])) }
         ensures err { OnErr result (self.new ≡ self.old) }
     {
         match self.open.get_mut(&trx) {
-            Some(fragments) => fragments.push(fragment),
+            Some(gathered) => gathered.add(alloc, fragment),
             None => {
-                let mut fragments = FragmentList::new(alloc);
-                fragments.push(fragment)?;
-                self.open.insert(trx, fragments)?;
+                let mut gathered = Gathered::new(alloc);
+                gathered.add(alloc, fragment)?;
+                self.open.insert(trx, gathered)?;
                 Ok(())
             }
         }
@@ -103,9 +116,9 @@ impl OpenTable {
         ensures { result ≡ greatest_touching (fragments_but self.now other_than) keys.now }
     {
         let mut greatest = None;
-        for (other, fragments) in &self.open {
+        for (other, gathered) in &self.open {
             if *other != other_than {
-                greatest = greatest_touching(greatest, fragments.as_slice(), keys);
+                greatest = greatest_touching(greatest, gathered.fragments(), keys);
             }
         }
         greatest

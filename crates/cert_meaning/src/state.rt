@@ -5,12 +5,13 @@ ghost use Rattle.finite_map.specs.FiniteMap.{len};
 ghost use Rattle.key_sets.specs.Keys.{touches};
 ghost use Rattle.cert_meaning.specs.Search.{commits_below, greatest_related};
 ghost use Rattle.cert_meaning.specs.Verdict.{held_by};
+ghost use Rattle.cert_meaning.specs.Whole.{whole_at};
 
 mod parts;
 mod step;
 mod verdict;
 
-use crate::items::CommitItem;
+use crate::items::{CommitItem, Whole};
 use crate::members::Members;
 use crate::open_table::OpenTable;
 use crate::row_table::RowTable;
@@ -37,7 +38,15 @@ impl Model for FoldState {
 
     ghost Value = { Seen };
 
-    ghost view = { λ s. record { number = s.number; floor = s.floor; version = s.version; members = s.members; rows = s.rows.rows; commits = s.commits.items; open_trx = s.open_trx } };
+    ghost view = { λ s. record {
+      number = s.number;
+      floor = s.floor;
+      version = s.version;
+      members = s.members;
+      rows = s.rows.rows;
+      commits = s.commits.items;
+      open_trx = s.open_trx;
+    } };
 
     // The numbers of the commits rise, so that a search from the newest one ends early.
     ghost invariant = { λ s. RiseWithin 0 s.number s.commits.items };
@@ -86,7 +95,8 @@ impl FoldState {
     /// The greatest passed commit above one number and below another whose keys touch. It costs
     /// the commits between them, and a search by halves.
     pub fn touching_between(&self, above: u64, below: u64, keys: &KeySet) -> Option<u64>
-        ensures { result ≡ greatest_related touches (commits_below below self.now.commits) above keys.now }
+        ensures { result
+            ≡ greatest_related touches (commits_below below self.now.commits) above keys.now }
     {
         let commits = search::commits_below(self.commits.as_slice(), below);
         search::greatest_related(Relation::Touch, commits, above, keys)
@@ -98,6 +108,13 @@ impl FoldState {
         ensures { result ≡ held_by self.now other_than keys.now }
     {
         self.open_trx.held_by(keys, other_than)
+    }
+
+    /// All keys and all changes of the fragments of an open transaction. None where it is not open.
+    pub fn whole(&self, trx: TrxId) -> Result<Option<Whole>, NoMemory>
+        ensures { IfOk result (λ whole. whole ≡ whole_at self.now trx) }
+    {
+        self.open_trx.whole(self.alloc(), trx)
     }
 
     /// The least report of the members.

@@ -4,19 +4,22 @@ ghost use Rattle.cert_meaning.specs.Parts.{open_items, open_of};
 
 use super::OpenTable;
 use crate::fragments::copied;
+use crate::gathered::Gathered;
 use crate::parts::{OpenItem, OpenList};
 use std::alloc::Global;
 use wsrep_base::NoMemory;
 
 impl OpenTable {
-    /// The transactions of these items. Of items of one transaction the first counts.
+    /// The transactions of these items. Of items of one transaction the first counts. For one with
+    /// more keys than a set may have there is no room.
     pub(crate) fn of(alloc: Global, items: OpenList) -> Result<OpenTable, NoMemory>
         ensures { IfOk result (λ table. table ≡ open_of items) }
     {
         let mut table = OpenTable::new(alloc);
         let mut left = items.into_vec();
         while let Some(item) = left.pop() {
-            table.open.insert(item.trx, item.fragments)?;
+            let gathered = Gathered::of(alloc, item.fragments)?;
+            table.open.insert(item.trx, gathered)?;
         }
         Ok(table)
     }
@@ -26,8 +29,8 @@ impl OpenTable {
         ensures { IfOk result (λ items. items ≡ open_items self.now) }
     {
         let mut items = OpenList::new(alloc);
-        for (trx, fragments) in &self.open {
-            let fragments = copied(alloc, fragments.as_slice())?;
+        for (trx, gathered) in &self.open {
+            let fragments = copied(alloc, gathered.fragments())?;
             items.push(OpenItem {
                 trx: *trx,
                 fragments,

@@ -14,7 +14,7 @@ use wsrep_base::NoMemory;
 
 impl FoldState {
     /// The state with these parts. The numbers of the commits rise, and are at most that of the
-    /// state.
+    /// state. For an open transaction with more keys than a set may have there is no room.
     pub fn of(alloc: Global, parts: StateParts) -> Result<FoldState, NoMemory>
         requires { RiseWithin 0 parts.number parts.commits }
         ensures { IfOk result (λ s. s ≡ state_of parts) }

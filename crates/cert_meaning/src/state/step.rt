@@ -1,15 +1,15 @@
 //! What an event does to a state.
-ghost use Rattle.std.specs.Prelude.{◌≡◌, ◌+◌, ◌<◌, ◌≤◌, ◌^◌, [], unwrap_or, IfOk, OnOk, OnErr, List, ℕ};
-ghost use Rattle.finite_map.specs.FiniteMap.{get, len};
-ghost use Rattle.key_sets.specs.Keys.{LIMIT};
+ghost use Rattle.std.specs.Prelude.{◌≡◌, ◌+◌, ◌<◌, ◌^◌, [], unwrap_or, IfOk, OnOk, OnErr, List, ℕ};
+ghost use Rattle.finite_map.specs.FiniteMap.{get};
 ghost use Rattle.wsrep_base.specs.declared.verdict.Judged.TheVariants as became;
 ghost use Rattle.write_set.specs.Reading.{decoded};
-ghost use Rattle.cert_meaning.specs.State.{whole_keys, whole_ops, fragments_of};
+ghost use Rattle.cert_meaning.specs.State.{whole_ops, fragments_of};
 ghost use Rattle.cert_meaning.specs.Verdict.{trx_of};
+ghost use Rattle.cert_meaning.specs.Whole.{Fits};
 ghost use Rattle.cert_meaning.specs.Fold.{judged, judged_write, after, settled, closed, continued, committed, affected, effect_of, written, viewed, reported, ops_by, ops_written, ops_of, set_in};
 
 use super::FoldState;
-use crate::fragments::{whole_keys, whole_ops};
+use crate::fragments::whole_ops;
 use crate::items::{CommitItem, Fragment, Told};
 use crate::members::Standing;
 use crate::sets::{decoded, judged_as, trx_of};
@@ -72,10 +72,13 @@ impl FoldState {
     // The bytes of a member.
     fn write(&mut self, member: u32, body: &Bytes) -> Result<Told, NoMemory>
         requires { self.old.number + 1 < 2 ^ 64 }
-        ensures judged { IfOk result (λ told. told.judged ≡ judged_write self.old member (decoded body.now)) }
-        ensures state { OnOk result (self.new ≡ settled (written self.old member (decoded body.now))) }
+        ensures judged { IfOk result
+            (λ told. told.judged ≡ judged_write self.old member (decoded body.now)) }
+        ensures state { OnOk result
+            (self.new ≡ settled (written self.old member (decoded body.now))) }
         ensures set { IfOk result (λ told. told.set ≡ decoded body.now) }
-        ensures changes { IfOk result (λ told. told.changes ≡ unwrap_or (ops_written self.old member (decoded body.now)) []) }
+        ensures changes { IfOk result
+            (λ told. told.changes ≡ unwrap_or (ops_written self.old member (decoded body.now)) []) }
         ensures err { OnErr result (self.new ≡ self.old) }
     {
         let Some(set) = decoded(self.alloc(), body)? else {
@@ -94,9 +97,12 @@ impl FoldState {
     // What a write set does, by what became of it. Gives the changes that it commits.
     fn affect(&mut self, set: &WriteSet, judged: Judged) -> Result<OpList, NoMemory>
         requires number { self.old.number + 1 < 2 ^ 64 }
-        requires fits { judged ≡ became.Commit → len (whole_keys (fragments_of self.old (trx_of set.now)) set.now.keys) ≤ LIMIT }
-        ensures changes { IfOk result (λ changes. changes ≡ unwrap_or (ops_by self.old set.now (effect_of judged)) []) }
-        ensures state { OnOk result (self.new ≡ settled (affected self.old set.now (effect_of judged))) }
+        requires commit { judged ≡ became.Commit → Fits self.old set.now }
+        requires fragment { judged ≡ became.Fragment → Fits self.old set.now }
+        ensures changes { IfOk result
+            (λ changes. changes ≡ unwrap_or (ops_by self.old set.now (effect_of judged)) []) }
+        ensures state { OnOk result
+            (self.new ≡ settled (affected self.old set.now (effect_of judged))) }
         ensures err { OnErr result (self.new ≡ self.old) }
     {
         match judged {
@@ -129,16 +135,16 @@ impl FoldState {
     // All changes of the transaction go into the rows. Room is made before anything is changed.
     fn commit(&mut self, set: &WriteSet) -> Result<OpList, NoMemory>
         requires number { self.old.number + 1 < 2 ^ 64 }
-        requires fits { len (whole_keys (fragments_of self.old (trx_of set.now)) set.now.keys) ≤ LIMIT }
-        ensures changes { IfOk result (λ changes. changes ≡ whole_ops (fragments_of self.old (trx_of set.now)) set.now.ops) }
+        requires fits { Fits self.old set.now }
+        ensures changes { IfOk result
+            (λ changes. changes ≡ whole_ops (fragments_of self.old (trx_of set.now)) set.now.ops) }
         ensures state { OnOk result (self.new ≡ settled (committed self.old set.now)) }
         ensures err { OnErr result (self.new ≡ self.old) }
     {
         let trx = trx_of(set);
         let alloc = self.alloc();
-        let fragments = self.open_trx.fragments(trx);
-        let changes = whole_ops(alloc, fragments, set.ops.as_slice())?;
-        let Some(keys) = whole_keys(alloc, fragments, &set.keys)? else {
+        let changes = whole_ops(alloc, self.open_trx.fragments(trx), set.ops.as_slice())?;
+        let Some(keys) = self.open_trx.whole_keys(alloc, trx, &set.keys)? else {
             unreachable!();
         };
         self.commits.reserve(1)?;
@@ -162,7 +168,8 @@ impl FoldState {
 
     // The transaction has one more fragment.
     fn add(&mut self, set: &WriteSet) -> Result<(), NoMemory>
-        requires { self.old.number + 1 < 2 ^ 64 }
+        requires number { self.old.number + 1 < 2 ^ 64 }
+        requires fits { Fits self.old set.now }
         ensures ok { OnOk result (self.new ≡ settled (continued self.old set.now)) }
         ensures err { OnErr result (self.new ≡ self.old) }
     {
@@ -206,7 +213,8 @@ impl FoldState {
     // A member reports what it has committed.
     fn report(&mut self, member: u32, number: u64)
         requires { self.old.number + 1 < 2 ^ 64 }
-        ensures { self.new ≡ settled (reported self.old member number (get self.old.members member)) }
+        ensures { self.new
+            ≡ settled (reported self.old member number (get self.old.members member)) }
     {
         if let Some(standing) = self.members.get(member) {
             if standing.report <= number && number <= self.number {

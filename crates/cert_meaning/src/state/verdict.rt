@@ -3,7 +3,7 @@ ghost use Rattle.std.specs.Prelude.{◌≡◌, IfOk};
 ghost use Rattle.cert_meaning.specs.Verdict.{is_start, trx_of, is_out_of_place, is_broken, conflict_of, held_by, conflict_or_held, verdict};
 
 use super::FoldState;
-use crate::fragments::{is_too_large, last_seen_of};
+use crate::fragments::last_seen_of;
 use crate::search;
 use crate::sets::{is_rollback, is_start, trx_of};
 use key_sets::{KeySet, Relation};
@@ -42,7 +42,9 @@ impl FoldState {
 
     // What commits and fragments say of a write set that continues its transaction.
     fn tested(&self, set: &WriteSet) -> Verdict
-        ensures { result ≡ conflict_or_held (conflict_of self.now set.now.last_seen set.now.keys) (held_by self.now (trx_of set.now) set.now.keys) }
+        ensures { result
+            ≡ conflict_or_held (conflict_of self.now set.now.last_seen set.now.keys)
+            (held_by self.now (trx_of set.now) set.now.keys) }
     {
         if let Some(commit) = self.conflict(set.last_seen, &set.keys) {
             return Verdict::Conflict(commit);
@@ -62,11 +64,11 @@ impl FoldState {
         if self.is_out_of_place(set) {
             return Ok(true);
         }
-        let fragments = self.open_trx.fragments(trx_of(set));
-        if set.last_seen < last_seen_of(fragments) {
+        let trx = trx_of(set);
+        if set.last_seen < last_seen_of(self.open_trx.fragments(trx)) {
             return Ok(true);
         }
-        is_too_large(self.alloc(), fragments, &set.keys)
+        self.open_trx.is_too_large(self.alloc(), trx, &set.keys)
     }
 
     // Whether it begins a transaction that is open, or continues one that is not open or stands

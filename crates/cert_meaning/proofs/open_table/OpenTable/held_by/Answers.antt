@@ -25,13 +25,13 @@ loop-other-init c =
 
 pub loop-other-preserved-then-ne : goal.loop-other-preserved-then-ne
 loop-other-preserved-then-ne c =
-    let left : c.loop-other.other-iterator ≡ (c.in-Some.other.now, c.in-Some.fragments.now) ∷ c.next.new.self =
+    let left : c.loop-other.other-iterator ≡ (c.in-Some.other.now, c.in-Some.gathered.now) ∷ c.next.new.self =
     rest_more deref_pair _ _ _ _ c.in-Some.is c.next.ensures.steps in
     let apart : eq_by_cmp trx_cmp c.args.other_than c.in-Some.other.now ≡ false =
     (eq_by_cmp_equiv trx_total).symm c.args.other_than c.in-Some.other.now ∙ sym (trx_ties c.in-Some.other.now c.args.other_than)
     ∙ not_true _ (sym c.ne.ensures ∙ c.if-ne.true) in
     ap (λ so_far. greater so_far (greatest_touching (left_but c.args.other_than c.next.new.self) c.args.keys.now))
-    (c.greatest_touching-greatest.ensures ∙ ap (λ (fs : List Fragment). greater c.loop-other.greatest (greatest_touching fs c.args.keys.now)) c.as_slice.ensures)
-    ∙ but-step c.loop-other.greatest c.args.other_than (c.in-Some.other.now, c.in-Some.fragments.now) c.next.new.self c.args.keys.now false apart
+    (c.greatest_touching-greatest.ensures ∙ ap (λ (fs : List Fragment). greater c.loop-other.greatest (greatest_touching fs c.args.keys.now)) c.fragments.ensures)
+    ∙ but-step c.loop-other.greatest c.args.other_than (c.in-Some.other.now, c.in-Some.gathered.now) c.next.new.self c.args.keys.now false apart
     ∙ ap (λ entries. greater c.loop-other.greatest (greatest_touching (left_but c.args.other_than entries) c.args.keys.now)) (sym left)
     ∙ c.loop-other.invariant

@@ -20,12 +20,12 @@ loop-trx-init c =
 
 pub loop-trx-preserved : goal.loop-trx-preserved
 loop-trx-preserved c =
-    let left : c.loop-trx.trx-iterator ≡ (c.in-Some.trx.now, c.in-Some.fragments.now) ∷ c.next.new.self =
+    let left : c.loop-trx.trx-iterator ≡ (c.in-Some.trx.now, c.in-Some.gathered.now) ∷ c.next.new.self =
     rest_more deref_pair _ _ _ _ c.in-Some.is c.next.ensures.steps in
     ap (λ (items : List OpenItem). items ++ map open_item c.next.new.self) c.in_ok-push.ensures.ok
     ∙ append_assoc c.loop-trx.items (open_item (c.in-Some.trx.now, c.in_ok-fragments.fragments) ∷ []) (map open_item c.next.new.self)
     ∙ ap (λ (fragments : List Fragment). c.loop-trx.items ++ (open_item (c.in-Some.trx.now, fragments) ∷ map open_item c.next.new.self))
-    (c.in_ok-fragments.ensures ∙ c.as_slice.ensures)
+    (c.in_ok-fragments.ensures ∙ c.fragments.ensures)
     ∙ ap (λ entries. c.loop-trx.items ++ map open_item entries) (sym left)
     ∙ c.loop-trx.invariant
 

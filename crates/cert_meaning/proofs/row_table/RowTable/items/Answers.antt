@@ -1,6 +1,5 @@
 -- The rows of the table are those of its map.
 use Rattle.std.proofs.Common.{Result, Ok, Err, List, IfOk, sym, ap, ◌∙◌, ◌≡◌}
-use Rattle.row_model.specs.Rows.{Rows}
 use Rattle.undo_rows.specs.RowTable.{row_items}
 use Rattle.undo_rows.proofs.SortedLemmas.{entries_again}
 use Rattle.finite_map.specs.FiniteMap.{from_entries}
