@@ -1,5 +1,6 @@
 //! The open transactions as a list.
-ghost use Rattle.std.specs.Prelude.{◌≡◌, IfOk};
+ghost use Rattle.std.specs.Prelude.{◌≡◌, IfOk, OnOk};
+ghost use Rattle.finite_map.specs.FiniteMap.{insert};
 ghost use Rattle.cert_meaning.specs.Parts.{open_items, open_of};
 
 use super::OpenTable;
@@ -18,10 +19,18 @@ impl OpenTable {
         let mut table = OpenTable::new(alloc);
         let mut left = items.into_vec();
         while let Some(item) = left.pop() {
-            let gathered = Gathered::of(alloc, item.fragments)?;
-            table.open.insert(item.trx, gathered)?;
+            table.put(alloc, item)?;
         }
         Ok(table)
+    }
+
+    // Puts the item in, in place of one of its transaction.
+    fn put(&mut self, alloc: Global, item: OpenItem) -> Result<(), NoMemory>
+        ensures { OnOk result (self.new ≡ insert self.old item.trx item.fragments) }
+    {
+        let gathered = Gathered::of(alloc, item.fragments)?;
+        self.open.insert(item.trx, gathered)?;
+        Ok(())
     }
 
     /// The transactions, by member and then by begin number.
