@@ -82,7 +82,7 @@ module _ {X : Type 0} (test : Holder → Bool) where
       by true is more = ap (λ b. cond b (Some e.0) (first_where test (map (λ e. e.0) (where_key holder_cmp test es)))) is
       by false is more = more
 
-  some-kept : (f : Holder → Option ℕ) → ((h : Holder) → test h ≡ false → f h ≡ None) → (es : List (Holder × X))
+  pub some-kept : (f : Holder → Option ℕ) → ((h : Holder) → test h ≡ false → f h ≡ None) → (es : List (Holder × X))
       → filter_map f (map (λ e. e.0) (where_key holder_cmp test es)) ≡ filter_map f (map (λ e. e.0) es)
   some-kept f none [] = refl
   some-kept f none (e ∷ es) = by (test e.0) refl (some-kept f none es)

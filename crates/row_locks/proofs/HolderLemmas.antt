@@ -12,7 +12,7 @@ use Rattle.std.proofs.lemmas.Cmp.{then_total, on_total}
 use Rattle.row_locks.specs.declared.holder.Holder.{Holder}
 use Rattle.row_locks.specs.declared.holder.Holder.TheVariants.{Session, Unit}
 use Rattle.row_locks.specs.Holders.{holder_cmp, same_holder, holder_pair}
-use Rattle.row_locks.specs.LockTable.{holder_eq}
+use Rattle.row_locks.specs.LockKeys.{holder_eq}
 
 abbrev pair_cmp : Holder → Holder → Ordering
 pair_cmp a b =

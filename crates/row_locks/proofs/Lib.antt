@@ -1,8 +1,11 @@
 pub mod HolderLemmas
+pub mod NumberLemmas
 pub mod LockLemmas
 pub mod TouchLemmas
 pub mod TableLemmas
+pub mod IndexLemmas
 pub mod LinkLemmas
-pub mod HolderListLemmas
+pub mod LeastLemmas
+pub mod WayLemmas
 pub mod SessionLemmas
 pub mod AlikeLaws

@@ -19,7 +19,8 @@ use Rattle.row_locks.specs.declared.lock_table.LockKey.{LockKey}
 use Rattle.row_locks.specs.declared.lock_table.Lock.{Lock}
 use Rattle.row_locks.specs.Holders.{same_holder}
 use Rattle.row_locks.specs.Locks.{Locks, keys_at, with_lock}
-use Rattle.row_locks.specs.LockTable.{holder_eq, lock_eq, key_of, lock_after, Entries, locks_in, has_row_of}
+use Rattle.row_locks.specs.LockKeys.{holder_eq, lock_eq, key_of}
+use Rattle.row_locks.specs.LockTable.{lock_after, Entries, locks_in, has_row_of}
 use Rattle.row_locks.proofs.HolderLemmas.{holder_equivalence, holder_ties, same_holder-exact, same_holder-itself}
 use Rattle.row_locks.proofs.LockLemmas.{HaveKeys, HaveKeys-empty, HaveKeys-with_entry, HaveKeys-with_lock, HaveKeys-remove, keys_at-empty, keys_at-remove, kind-with_entry, with_lock-entry, same_locks}
 

@@ -34,4 +34,5 @@ holder_back (Unit n) = refl
 
 -- a holder is stored as that pair
 abbrev pub coded_holder : Coded Holder
-coded_holder = code_by (ℕ × ℕ) (coded× coded_ℕ coded_ℕ) holder_pair (λ p. holder_at p.0 p.1) holder_back
+coded_holder =
+    code_by (ℕ × ℕ) (coded× coded_ℕ coded_ℕ) holder_pair (λ p. holder_at p.0 p.1) holder_back

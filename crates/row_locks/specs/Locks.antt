@@ -1,4 +1,5 @@
--- Row locks: the keys that each holder has, who stands in the way of one more, and which sessions' keys touch a key set.
+-- Row locks: the keys that each holder has, who stands in the way of one more, and which sessions'
+-- keys touch a key set.
 use Rattle.std.specs.Prelude.{ℕ, Bool, ◌&&◌, not, List, [], ◌∷◌, Option, None, Some, if◌then◌else◌, refl}
 use Rattle.std.specs.Option.{unwrap_or}
 use Rattle.std.specs.List.{filter_map}
@@ -58,11 +59,13 @@ granted_unless None locks holder parts kind = (Held, with_lock locks holder part
 
 -- the key is the holder's, unless another one has a key that touches it
 abbrev pub granted : Locks → Holder → Parts → Kind → Grant × Locks
-granted locks holder parts kind = granted_unless (blocker locks holder parts kind) locks holder parts kind
+granted locks holder parts kind =
+    granted_unless (blocker locks holder parts kind) locks holder parts kind
 
 -- the session that the holder is, where its keys touch the set
 abbrev pub touching_session : Locks → Keys → Holder → Option ℕ
-touching_session locks all (Session n) = if touches all (keys_at locks (Session n)) then Some n else None
+touching_session locks all (Session n) =
+    if touches all (keys_at locks (Session n)) then Some n else None
 touching_session locks all (Unit n) = None
 
 -- the sessions whose keys touch the set, ascending

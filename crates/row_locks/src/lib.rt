@@ -2,8 +2,10 @@
 #![tactic(auto)]
 
 mod holder;
+mod holder_index;
 mod laws;
 mod lock_table;
+mod put;
 
 pub use holder::{Grant, Holder};
 pub use laws::lock_laws;

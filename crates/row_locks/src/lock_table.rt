@@ -1,9 +1,7 @@
-ghost use Rattle.std.specs.Prelude.{◌≡◌, ◌+◌, ◌<◌, ◌≤◌, ◌&&◌, length, not, cond, None, is_some, IfOk, OnOk, OnErr, IsOk, IsSome};
-ghost use Rattle.std.specs.List.{list_any};
+ghost use Rattle.std.specs.Prelude.{◌≡◌, ◌+◌, ◌<◌, ◌≤◌, ◌&&◌, ◌++◌, length, cond, None, is_some, IfOk, OnOk, OnErr, IsOk, IsSome};
+ghost use Rattle.std.specs.Option.{option_to_list};
 ghost use Rattle.std.specs.HashMap.{spare};
 ghost use Rattle.std.specs.Map.{lookup};
-ghost use Rattle.std.specs.Vec.{vec_capacity, vec_len};
-ghost use Rattle.std.specs.FinMap.Entries.{find, put, where_key};
 ghost use Rattle.finite_map.specs.FiniteMap.{empty, get, remove};
 ghost use Rattle.finite_map.specs.Links.{Linked};
 ghost use Rattle.key_sets.specs.Keys.{touches, one_key};
@@ -11,24 +9,29 @@ ghost use Rattle.key_sets.specs.Kinds.{kinds_touch};
 ghost use Rattle.key_sets.specs.Parts.{same_parts, table_of};
 ghost use Rattle.key_sets.specs.Probes.{passes};
 ghost use Rattle.row_locks.specs.Alike.{HoldAlike, with_held};
-ghost use Rattle.row_locks.specs.Holders.{holder_cmp, same_holder};
-ghost use Rattle.row_locks.specs.Locks.{blocker, granted, is_blocked_by, keys_at, touching_sessions, with_lock};
-ghost use Rattle.row_locks.specs.LockTable.{has_row_of, links, lock_after, lock_eq, place, touched_session};
+ghost use Rattle.row_locks.specs.HolderIndex.{index_room};
+ghost use Rattle.row_locks.specs.Holders.{same_holder};
+ghost use Rattle.row_locks.specs.LockKeys.{holder_eq, lock_eq};
+ghost use Rattle.row_locks.specs.Locks.{blocker, granted, keys_at, touching_sessions, with_lock};
+ghost use Rattle.row_locks.specs.LockTable.{DropsAll, IsIndexOf, blocker_at, has_row_of, is_in_way_at, last_with, lesser, links, lock_after, row_blocker, row_in_way, touched_session, touches_some, where_passes};
+ghost use Rattle.row_locks.specs.declared.holder.Holder.TheVariants.{Session};
 ghost use Rattle.row_locks.specs.declared.lock_table.LockKey.{LockKey};
 
 use crate::holder::{Grant, Holder};
+use crate::holder_index::HolderIndex;
+use crate::put::put;
 use item_list::ItemList;
 use key_sets::{KeySet, Kind, Parts};
-use std::alloc::{AllocError, Global};
+use std::alloc::Global;
 use std::collections::HashMap;
 use std::marker::Model;
 use wsrep_base::{NoMemory, SessionList};
 
 // A key of a holder.
 #[derive(Clone, Copy, Debug, PartialEq, Eq, Hash)]
-struct LockKey {
-    holder: Holder,
-    parts: Parts,
+pub(crate) struct LockKey {
+    pub(crate) holder: Holder,
+    pub(crate) parts: Parts,
 }
 
 // The kind of a key, and the key that its holder got before it.
@@ -42,8 +45,12 @@ struct Lock {
 #[derive(Drop)]
 pub struct LockTable {
     locks: HashMap<LockKey, Lock>,
-    // In order, each with the key that it got last.
-    holders: Vec<(Holder, Parts)>,
+    // The key that each holder got last.
+    newest: HashMap<Holder, Parts>,
+    // Who has a key at given parts.
+    index: HolderIndex,
+    // No session above this one ever had a key.
+    last_session: u8,
 }
 
 impl Model for LockTable {
@@ -53,14 +60,16 @@ impl Model for LockTable {
 
     ghost coded = { coded_lock_state };
 
-    ghost use Rattle.std.specs.Prelude.{min, ◌-◌};
     ghost use Rattle.std.specs.HashMap.{spare};
-    ghost use Rattle.std.specs.Vec.{vec_capacity, vec_len};
-    ghost use Rattle.row_locks.specs.LockTable.{locks_in, AreLinked};
+    ghost use Rattle.row_locks.specs.HolderIndex.{index_room};
+    ghost use Rattle.row_locks.specs.LockTable.{lock_state, IsLockTable};
 
-    ghost view = { λ table. record { locks = locks_in table.locks.entries; spare = min (spare table.locks) (vec_capacity table.holders - vec_len table.holders) } };
+    ghost view = { λ table.
+        lock_state table.locks.entries (spare table.locks) (spare table.newest)
+        (index_room table.index) };
 
-    ghost invariant = { λ table. AreLinked table.locks.entries table.holders.items };
+    ghost invariant = { λ table.
+        IsLockTable table.locks.entries table.newest.entries table.index table.last_session };
 }
 
 impl LockTable {
@@ -71,24 +80,29 @@ impl LockTable {
     {
         Ok(LockTable {
             locks: HashMap::new(alloc),
-            holders: Vec::new(alloc),
+            newest: HashMap::new(alloc),
+            index: HolderIndex::new(alloc),
+            last_session: 0,
         })
     }
 
     /// Gives a holder a key, unless another holder has one that touches it. A stronger kind
     /// replaces a weaker one.
     pub fn grant(&mut self, holder: Holder, parts: &Parts, kind: Kind) -> Result<Grant, NoMemory>
-        ensures ok { IfOk result (λ grant. (grant, self.new.locks) ≡ granted self.old.locks holder parts.now kind) }
+        ensures ok { IfOk result
+            (λ grant. (grant, self.new.locks) ≡ granted self.old.locks holder parts.now kind) }
         ensures err { OnErr result (self.new.locks ≡ self.old.locks) }
         ensures busy { OnErr result (blocker self.old.locks holder parts.now kind ≡ None) }
         ensures succeeds { 0 < self.old.spare → IsOk result }
         ensures spare { self.old.spare ≤ self.new.spare + 1 }
-        ensures refused { IsSome (blocker self.old.locks holder parts.now kind) → self.old.spare ≤ self.new.spare }
+        ensures refused { IsSome (blocker self.old.locks holder parts.now kind)
+            → self.old.spare ≤ self.new.spare }
     {
         if let Some(other) = self.check(holder, parts, kind) {
             return Ok(Grant::Busy(other));
         }
-        self.add(holder, parts, kind)?;
+        self.reserve(1)?;
+        self.put(holder, parts, kind);
         Ok(Grant::Held)
     }
 
@@ -100,10 +114,7 @@ impl LockTable {
         ensures spare { self.old.spare ≤ self.new.spare + length keys.now }
     {
         for (parts, kind) in keys {
-            match self.add(holder, parts, *kind) {
-                Ok(()) => {}
-                Err(_) => unreachable!(),
-            }
+            self.put(holder, parts, *kind);
         }
     }
 
@@ -112,12 +123,15 @@ impl LockTable {
     pub fn check(&self, holder: Holder, parts: &Parts, kind: Kind) -> Option<Holder>
         ensures { result ≡ blocker self.now.locks holder parts.now kind }
     {
-        for (other, _) in &self.holders {
-            if self.is_blocked_by(*other, holder, parts, kind) {
-                return Some(*other);
+        let here = self.blocker_at(holder, parts, kind);
+        match parts.row {
+            Some(_) => {
+                let table = parts.table_parts();
+                lesser(here, self.blocker_at(holder, &table, Kind::Shared))
             }
+            None if Kind::Shared.touches(kind) => lesser(here, self.row_blocker(holder, parts)),
+            None => here,
         }
-        None
     }
 
     /// Makes room for so many keys that are granted.
@@ -128,7 +142,8 @@ impl LockTable {
         ensures spare { self.old.spare ≤ self.new.spare }
     {
         self.locks.reserve(keys)?;
-        self.holders.reserve(keys)
+        self.newest.reserve(keys)?;
+        self.index.reserve(keys)
     }
 
     /// Drops all keys of a holder.
@@ -136,9 +151,8 @@ impl LockTable {
         ensures locks { self.new.locks ≡ remove self.old.locks holder }
         ensures spare { self.old.spare ≤ self.new.spare }
     {
-        let newest = newest_of(&self.holders, holder);
-        drop_all(&mut self.locks, holder, newest);
-        drop_holder(&mut self.holders, holder);
+        let newest = self.newest.remove(&holder);
+        drop_all(&mut self.locks, &mut self.index, holder, newest);
     }
 
     /// The sessions that have a key that touches one of the set, ascending.
@@ -146,35 +160,85 @@ impl LockTable {
         ensures { IfOk result (λ sessions. sessions ≡ touching_sessions self.now.locks keys.now) }
     {
         let list = keys.sorted()?;
-        let holders = self.holders.iter();
-        let sessions = holders.filter_map(|(holder, _)| self.touched_session(
-            *holder,
-            list.as_slice(),
-        ));
-        let items: Vec<u8> = sessions.collect(list.alloc())?;
-        Ok(ItemList::from(items))
+        let mut sessions: Vec<u8> = Vec::new(list.alloc());
+        for session in 0..self.last_session {
+            self.add_touched(&mut sessions, session, list.as_slice())?;
+        }
+        self.add_touched(&mut sessions, self.last_session, list.as_slice())?;
+        Ok(ItemList::from(sessions))
     }
 
-    // Whether this is another holder, and it has a key that touches the one asked for.
-    fn is_blocked_by(&self, other: Holder, holder: Holder, parts: &Parts, kind: Kind) -> bool
-        ensures { result ≡ is_blocked_by self.now.locks holder parts.now kind other }
+    // The least of the other holders that have a key with just these parts that the kind touches.
+    fn blocker_at(&self, holder: Holder, parts: &Parts, kind: Kind) -> Option<Holder>
+        ensures { result ≡ blocker_at self.now.locks holder parts.now kind }
     {
-        other != holder && self.touches(other, parts, kind)
+        let mut least = None;
+        for number in 0..self.index.count(parts) {
+            let other = self.index.holder(parts, number);
+            least = lesser(least, self.in_way_at(other, holder, parts, kind));
+        }
+        least
     }
 
-    // The session that the holder is, where one of the keys touches one of its own.
-    fn touched_session(&self, holder: Holder, keys: &[(Parts, Kind)]) -> Option<u8>
-        ensures { result ≡ touched_session self.now.locks keys.now holder }
+    // The other holder, where it has a key with just these parts that the kind touches.
+    fn in_way_at(
+        &self,
+        other: Option<Holder>,
+        holder: Holder,
+        parts: &Parts,
+        kind: Kind,
+    ) -> Option<Holder>
+        ensures { result ≡ where_passes (is_in_way_at self.now.locks holder parts.now kind) other }
     {
-        match holder {
-            Holder::Session(session) if self.touches_some(holder, keys) => Some(session),
+        match other {
+            Some(other) if other != holder && self.is_touched_at(other, parts, kind) => Some(other),
             _ => None,
         }
     }
 
+    // The least of the other holders that have a key of a row of this table. It goes over all
+    // locks.
+    fn row_blocker(&self, holder: Holder, table: &Parts) -> Option<Holder>
+        ensures { result ≡ row_blocker self.now.locks holder table.now }
+    {
+        let mut least = None;
+        for (key, _) in &self.locks {
+            if is_row_in_way(key, holder, table) {
+                least = lesser(least, Some(key.holder));
+            }
+        }
+        least
+    }
+
+    // Adds the session to the list, where one of the keys touches one of its own.
+    fn add_touched(
+        &self,
+        sessions: &mut Vec<u8>,
+        session: u8,
+        keys: &[(Parts, Kind)],
+    ) -> Result<(), NoMemory>
+        ensures { OnOk result
+            (sessions.new.items
+            ≡ sessions.old.items
+            ++ option_to_list (touched_session self.now.locks keys.now (Session session))) }
+    {
+        if self.is_session_touched(session, keys) {
+            sessions.push(session)?;
+        }
+        Ok(())
+    }
+
+    // Whether one of the keys touches a key of the session.
+    fn is_session_touched(&self, session: u8, keys: &[(Parts, Kind)]) -> bool
+        ensures { result ≡ touches_some self.now.locks keys.now (Session session) }
+    {
+        let holder = Holder::Session(session);
+        self.newest.contains_key(&holder) && self.touches_some(holder, keys)
+    }
+
     // Whether one of the keys touches a key of the holder.
     fn touches_some(&self, holder: Holder, keys: &[(Parts, Kind)]) -> bool
-        ensures { result ≡ list_any (λ key. touches (one_key key.0 key.1) (keys_at self.now.locks holder)) keys.now }
+        ensures { result ≡ touches_some self.now.locks keys.now holder }
     {
         keys.iter()
             .any(|(parts, kind)| self.touches(holder, parts, *kind))
@@ -194,7 +258,8 @@ impl LockTable {
 
     // Whether the holder has a key with just these parts that the kind touches.
     fn is_touched_at(&self, holder: Holder, parts: &Parts, kind: Kind) -> bool
-        ensures { result ≡ passes (kinds_touch kind) (get (keys_at self.now.locks holder) parts.now) }
+        ensures { result
+            ≡ passes (kinds_touch kind) (get (keys_at self.now.locks holder) parts.now) }
     {
         let parts = *parts;
         match self.locks.get(&LockKey { holder, parts }) {
@@ -211,23 +276,45 @@ impl LockTable {
         locks.any(|(key, _)| key.holder == holder && is_row_of(&key.parts, table))
     }
 
-    // Adds a key to those of a holder.
-    fn add(&mut self, holder: Holder, parts: &Parts, kind: Kind) -> Result<(), NoMemory>
-        ensures ok { OnOk result (self.new.locks ≡ with_lock self.old.locks holder parts.now kind) }
-        ensures err { OnErr result (self.new.locks ≡ self.old.locks) }
-        ensures succeeds { 0 < self.old.spare → IsOk result }
+    // Adds a key to those of a holder. There is room for it.
+    fn put(&mut self, holder: Holder, parts: &Parts, kind: Kind)
+        requires { 0 < self.old.spare }
+        ensures locks { self.new.locks ≡ with_lock self.old.locks holder parts.now kind }
         ensures spare { self.old.spare ≤ self.new.spare + 1 }
     {
-        self.holders.reserve(1)?;
         let parts = *parts;
         let key = LockKey { holder, parts };
-        let lock = raised(&self.locks, &self.holders, &key, kind);
+        let lock = raised(&self.locks, &self.newest, &key, kind);
         match self.locks.insert(key, lock) {
             Ok(Some(_)) => {}
-            Ok(None) => put_newest(&mut self.holders, holder, parts),
-            Err(_) => return Err(AllocError),
+            Ok(None) => {
+                put(&mut self.newest, holder, parts);
+                self.index.add(key);
+                self.last_session = last_with(self.last_session, holder);
+            }
+            Err(_) => unreachable!(),
         }
-        Ok(())
+    }
+}
+
+// The lesser of two holders, where there is one.
+fn lesser(one: Option<Holder>, other: Option<Holder>) -> Option<Holder>
+    ensures { result ≡ lesser one other }
+{
+    match (one, other) {
+        (Some(a), Some(b)) if b < a => Some(b),
+        (Some(a), _) => Some(a),
+        (None, b) => b,
+    }
+}
+
+// The greatest session that has had a key, once this holder has one.
+fn last_with(last: u8, holder: Holder) -> u8
+    ensures { result ≡ last_with last holder }
+{
+    match holder {
+        Holder::Session(session) => last.max(session),
+        Holder::Unit(_) => last,
     }
 }
 
@@ -238,15 +325,24 @@ fn is_row_of(parts: &Parts, table: &Parts) -> bool
     parts.row.is_some() && parts.table_parts() == *table
 }
 
+// Whether the key is another holder's, and that of a row of the table.
+fn is_row_in_way(key: &LockKey, holder: Holder, table: &Parts) -> bool
+    ensures { result ≡ row_in_way holder table.now key.now }
+{
+    key.holder != holder && is_row_of(&key.parts, table)
+}
+
 // The lock that a key has once it is granted: with the stronger kind, and leading to where it did,
 // or else to its holder's newest key.
 fn raised(
     locks: &HashMap<LockKey, Lock>,
-    holders: &[(Holder, Parts)],
+    newest: &HashMap<Holder, Parts>,
     key: &LockKey,
     kind: Kind,
 ) -> Lock
-    ensures { result ≡ lock_after (lookup (lock_eq key.now) locks.now.entries) (find holder_cmp key.now.holder holders.now) kind }
+    ensures { result
+        ≡ lock_after (lookup (lock_eq key.now) locks.now.entries)
+        (lookup (holder_eq key.now.holder) newest.now.entries) kind }
 {
     match locks.get(key) {
         Some(old) => Lock {
@@ -255,70 +351,30 @@ fn raised(
         },
         None => Lock {
             kind,
-            before: newest_of(holders, key.holder),
+            before: newest.get(&key.holder).copied(),
         },
     }
 }
 
-// The key that a holder got last.
-fn newest_of(holders: &[(Holder, Parts)], holder: Holder) -> Option<Parts>
-    ensures { result ≡ find holder_cmp holder holders.now }
-{
-    for (other, newest) in holders {
-        if *other == holder {
-            return Some(*newest);
-        }
-    }
-    None
-}
-
-// Makes the key its holder's newest. There is room for one more holder.
-fn put_newest(holders: &mut Vec<(Holder, Parts)>, holder: Holder, parts: Parts)
-    requires { vec_len holders.old < vec_capacity holders.old }
-    ensures holders { holders.new.items ≡ put holder_cmp holder parts holders.old.items }
-    ensures capacity { vec_capacity holders.old ≤ vec_capacity holders.new }
-    ensures len { vec_len holders.new ≤ vec_len holders.old + 1 }
-{
-    let at = place_of(holders, holder);
-    if at < holders.len() && holders[at].0 == holder {
-        holders[at].1 = parts;
-    } else {
-        match holders.insert(at, (holder, parts)) {
-            Ok(()) => {}
-            Err(_) => unreachable!(),
-        }
-    }
-}
-
-// The number of holders that come before this one.
-fn place_of(holders: &[(Holder, Parts)], holder: Holder) -> usize
-    ensures { result ≡ place holder holders.now }
-{
-    let mut at = 0;
-    while at < holders.len() && holders[at].0 < holder {
-        at += 1;
-    }
-    at
-}
-
-// Takes a holder out.
-fn drop_holder(holders: &mut Vec<(Holder, Parts)>, holder: Holder)
-    ensures holders { holders.new.items ≡ where_key holder_cmp (λ other. not (same_holder holder other)) holders.old.items }
-    ensures capacity { vec_capacity holders.new ≡ vec_capacity holders.old }
-    ensures len { vec_len holders.new ≤ vec_len holders.old }
-{
-    holders.retain(|entry| entry.0 != holder);
-}
-
 // Takes out all keys of a holder, from its newest on.
-fn drop_all(locks: &mut HashMap<LockKey, Lock>, holder: Holder, newest: Option<Parts>)
-    requires { Linked (links locks.old.entries holder) newest }
-    ensures locks { (key : LockKey) → lookup (lock_eq key) locks.new.entries ≡ cond (same_holder holder key.holder) None (lookup (lock_eq key) locks.old.entries) }
+fn drop_all(
+    locks: &mut HashMap<LockKey, Lock>,
+    index: &mut HolderIndex,
+    holder: Holder,
+    newest: Option<Parts>,
+)
+    requires linked { Linked (links locks.old.entries holder) newest }
+    requires index { IsIndexOf index.old locks.old.entries }
+    ensures index { IsIndexOf index.new locks.new.entries }
+    ensures locks { DropsAll holder locks.old.entries locks.new.entries }
     ensures spare { spare locks.old ≤ spare locks.new }
+    ensures room { index_room index.old ≤ index_room index.new }
 {
     let mut next = newest;
     while let Some(parts) = next {
-        next = match locks.remove(&LockKey { holder, parts }) {
+        let key = LockKey { holder, parts };
+        index.remove(&key);
+        next = match locks.remove(&key) {
             Some(lock) => lock.before,
             None => None,
         };

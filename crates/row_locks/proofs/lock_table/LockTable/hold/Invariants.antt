@@ -1,4 +1,4 @@
-use Rattle.std.proofs.Common.{◌+◌, ◌≤◌, length, take}
+use Rattle.std.proofs.Common.{◌+◌, ◌≤◌, take}
 use Rattle.row_locks.specs.Alike.{HoldAlike, with_held}
 use Rattle.row_locks.proofs.lock_table.LockTable.hold.Given as goal
 
