@@ -1,5 +1,5 @@
 -- A value with at most one more entry adds only what its seat may.
-use Rattle.std.proofs.Common.{rules, ◌≡◌, List, [], ◌∷◌, ◌++◌, sym, Result, Ok, Err, MatchResult, append-nil}
+use Rattle.std.proofs.Common.{rules, ◌≡◌, List, [], ◌∷◌, ◌++◌, Result, Ok, Err, MatchResult}
 use Rattle.node_gate.specs.Calls.{AddsOnly}
 
 pub at_most_one : {C E M T X : Type 0} → (entries : C → List E) (mark : C → M) (may : E → Type 0) (c c' : C) (x : E) (r : Result T X)

@@ -1,14 +1,17 @@
-//! Tests of a gate over its public calls, with threads.
+//! Tests of a gate over its public calls, with threads. It has nothing else.
 #![tactic(auto)]
 
+#[cfg(test)]
 mod jobs;
+#[cfg(test)]
 mod relay;
+#[cfg(test)]
 mod tally;
 #[cfg(test)]
 mod tests;
+#[cfg(test)]
 mod told;
+#[cfg(test)]
 mod turns;
-
-pub use relay::Relay;
-pub use tally::Tally;
-pub use told::{Told, Watcher};
+#[cfg(test)]
+mod waits;

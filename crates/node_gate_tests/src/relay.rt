@@ -34,7 +34,9 @@ impl Relay {
     fn pass_on<T: Wait>(&mut self, rt: &T, to: &Gate<Tally>) -> Result<(), NoMemory>
         requires serves { self.old.seat.gate ≡ to.now }
         ensures seat { self.new.seat.gate ≡ self.old.seat.gate }
-        ensures notes { MatchResult result (λ _. self.new.notes.items ≡ self.old.notes.items ++ self.old.number ∷ []) (λ _. self.new.notes.items ≡ self.old.notes.items) }
+        ensures notes { MatchResult result
+            (λ _. self.new.notes.items ≡ self.old.notes.items ++ self.old.number ∷ [])
+            (λ _. self.new.notes.items ≡ self.old.notes.items) }
     {
         note(rt, to, &mut self.seat, self.number)?;
         self.notes.push(self.number)?;

@@ -27,7 +27,9 @@ impl Tally {
     /// One more note of this seat.
     pub fn note(&mut self, seat: u64) -> Result<(), NoMemory>
         ensures name { self.new.name ≡ self.old.name }
-        ensures notes { MatchResult result (λ _. self.new.notes.items ≡ self.old.notes.items ++ seat ∷ []) (λ _. self.new.notes.items ≡ self.old.notes.items) }
+        ensures notes { MatchResult result
+            (λ _. self.new.notes.items ≡ self.old.notes.items ++ seat ∷ [])
+            (λ _. self.new.notes.items ≡ self.old.notes.items) }
     {
         self.notes.push(seat)?;
         Ok(())

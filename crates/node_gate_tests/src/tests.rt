@@ -2,6 +2,7 @@ use crate::jobs::two_jobs;
 use crate::relay::turns_in_turns;
 use crate::told::{self, Watcher};
 use crate::turns::{seen_by_another, two_threads};
+use crate::waits::seen_in_time;
 use node_gate::Counted;
 use std::test::Fail;
 
@@ -34,6 +35,12 @@ fn turns_are_made_inside_turns_of_another_gate(rt: HostRuntime) -> Result<(), Fa
 #[test]
 fn jobs_take_seats_and_give_them_back(rt: HostRuntime) -> Result<(), Fail> {
     assert_eq!(rt; two_jobs(&rt, rt.alloc())?, 6);
+    Ok(())
+}
+
+#[test]
+fn a_caller_waits_for_turns_of_another_thread(rt: HostRuntime) -> Result<(), Fail> {
+    assert!(rt; seen_in_time(&rt, rt.alloc())?);
     Ok(())
 }
 

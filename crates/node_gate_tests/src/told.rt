@@ -31,7 +31,9 @@ pub struct Told<W: Watcher> {
 impl<W: Watcher> Told<W> {
     fn note(&mut self, seat: u64) -> Result<(), NoMemory>
         ensures name { self.new.tally.name ≡ self.old.tally.name }
-        ensures notes { MatchResult result (λ _. self.new.tally.notes.items ≡ self.old.tally.notes.items ++ seat ∷ []) (λ _. self.new.tally.notes.items ≡ self.old.tally.notes.items) }
+        ensures notes { MatchResult result
+            (λ _. self.new.tally.notes.items ≡ self.old.tally.notes.items ++ seat ∷ [])
+            (λ _. self.new.tally.notes.items ≡ self.old.tally.notes.items) }
     {
         self.tally.note(seat)?;
         self.watcher.hear(seat);

@@ -10,7 +10,8 @@ use wsrep_base::NoMemory;
 
 /// A gate over a tally of this name, and its first seat.
 pub(crate) fn open(alloc: Global, name: u64) -> Result<(Gate<Tally>, GateSeat<Tally>), NoMemory>
-    ensures { IfOk result (λ r. (r.1.gate ≡ r.0) × (r.1.number ≡ 0) × (r.1.splits ≡ 0) × (r.1.met ≡ [])) }
+    ensures { IfOk result (λ r. (r.1.gate ≡ r.0) × (r.1.number ≡ 0)
+        × (r.1.splits ≡ 0) × (r.1.met ≡ [])) }
 {
     match Gate::new(alloc, Tally::new(alloc, name)) {
         Ok(made) => Ok(made),
