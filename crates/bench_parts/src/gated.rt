@@ -69,6 +69,53 @@ fn two<R: Threads + Wait + Sync>(
     left.and(right)
 }
 
+// So many turns of each of the first four seats that were split off, in four threads.
+fn four<R: Threads + Wait + Sync>(
+    rt: &R,
+    gate: &Gate<Tally>,
+    a: GateSeat<Tally>,
+    b: GateSeat<Tally>,
+    c: GateSeat<Tally>,
+    d: GateSeat<Tally>,
+    rounds: u32,
+) -> Result<(), NoMemory>
+    requires serves { (a.gate ≡ gate.now) × (b.gate ≡ gate.now) }
+    requires serves_too { (c.gate ≡ gate.now) × (d.gate ≡ gate.now) }
+    requires numbers { (a.number ≡ 1) × (b.number ≡ 2) }
+    requires numbers_too { (c.number ≡ 3) × (d.number ≡ 4) }
+{
+    let left = move || -> Result<(), NoMemory>
+        requires { (a.gate ≡ gate.now) × (b.gate ≡ gate.now) × (a.number ≡ 1) × (b.number ≡ 2) }
+    { two(rt, gate, a, b, 1, rounds) };
+    let right = move || -> Result<(), NoMemory>
+        requires { (c.gate ≡ gate.now) × (d.gate ≡ gate.now) × (c.number ≡ 3) × (d.number ≡ 4) }
+    { two(rt, gate, c, d, 3, rounds) };
+    let (made, made_too) = join(rt, left, right);
+    made.and(made_too)
+}
+
+fn by_one<T: Wait>(rt: &T, alloc: Global, rounds: u32) -> Result<u64, NoMemory> {
+    let (gate, mut seat) = open(alloc)?;
+    let other = gate.split(&mut seat);
+    one(rt, &gate, other, 1, rounds)?;
+    Ok(gate.last_committed(&mut seat))
+}
+
+fn by_two<R: Threads + Wait + Sync>(rt: &R, alloc: Global, rounds: u32) -> Result<u64, NoMemory> {
+    let (gate, mut seat) = open(alloc)?;
+    let (a, b) = (gate.split(&mut seat), gate.split(&mut seat));
+    two(rt, &gate, a, b, 1, rounds)?;
+    Ok(gate.last_committed(&mut seat))
+}
+
+fn by_four<R: Threads + Wait + Sync>(rt: &R, alloc: Global, rounds: u32) -> Result<u64, NoMemory> {
+    let (gate, mut seat) = open(alloc)?;
+    let (a, b) = (gate.split(&mut seat), gate.split(&mut seat));
+    let (c, d) = (gate.split(&mut seat), gate.split(&mut seat));
+    four(rt, &gate, a, b, c, d, rounds)?;
+    Ok(gate.last_committed(&mut seat))
+}
+
 /// How many turns were made, once each of one, two or four threads has made its own.
 pub fn turns<R: Threads + Wait + Sync>(
     rt: &R,
@@ -76,25 +123,11 @@ pub fn turns<R: Threads + Wait + Sync>(
     threads: u8,
     rounds: u32,
 ) -> Result<u64, NoMemory> {
-    let (gate, mut seat) = open(alloc)?;
-    let (a, b) = (gate.split(&mut seat), gate.split(&mut seat));
-    let (c, d) = (gate.split(&mut seat), gate.split(&mut seat));
-    let shared = &gate;
     match threads {
-        1 => one(rt, shared, a, 1, rounds)?,
-        2 => two(rt, shared, a, b, 1, rounds)?,
-        _ => {
-            let left = move || -> Result<(), NoMemory>
-                requires { (a.gate ≡ shared.now) × (b.gate ≡ shared.now) × (a.number ≡ 1) × (b.number ≡ 2) }
-            { two(rt, shared, a, b, 1, rounds) };
-            let right = move || -> Result<(), NoMemory>
-                requires { (c.gate ≡ shared.now) × (d.gate ≡ shared.now) × (c.number ≡ 3) × (d.number ≡ 4) }
-            { two(rt, shared, c, d, 3, rounds) };
-            let (made, made_too) = join(rt, left, right);
-            made.and(made_too)?;
-        }
+        1 => by_one(rt, alloc, rounds),
+        2 => by_two(rt, alloc, rounds),
+        _ => by_four(rt, alloc, rounds),
     }
-    Ok(gate.last_committed(&mut seat))
 }
 
 /// The last of so many loads of the number after one turn.

@@ -1,6 +1,6 @@
 use Rattle.std.proofs.Common.{◌≡◌}
 use Rattle.finite_map.specs.FiniteMap.{empty}
-use Rattle.bench_rows.proofs.put_all.Given as goal
+use Rattle.bench_parts.proofs.rows.put_all.Given as goal
 
 abbrev pub invariant-loop-number : goal.invariant-loop-number
 invariant-loop-number g l = (g.R.Rows.table l.rows).changes ≡ empty

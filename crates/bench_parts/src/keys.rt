@@ -1,11 +1,9 @@
-//! Measures `conflicts`, `touches` and `union` of two key sets. With no argument it does one round
-//! of each and prints what it found; with any argument it prints nanoseconds a round.
-#![tactic(auto)]
-
+//! `conflicts`, `touches` and `union` of two key sets.
+use crate::measure::{Measure, Rounds};
 use anyhow::Result;
 use key_sets::{KeyFault, KeySet, Kind, Parts, conflicts, touches};
 use std::alloc::Global;
-use std::env;
+use std::rt::Clock;
 use std::time::Instant;
 
 // What is measured.
@@ -59,7 +57,7 @@ fn shared_rows(alloc: Global, count: u16) -> Result<KeySet, KeyFault> {
 }
 
 // So many rounds; the sum of what they found. The sets change places each round.
-fn all_rounds(work: Work, rounds: u64, a: &KeySet, b: &KeySet) -> Result<u64, KeyFault> {
+fn all_rounds(work: Work, rounds: u32, a: &KeySet, b: &KeySet) -> Result<u64, KeyFault> {
     let mut found: u64 = 0;
     for round in 0..rounds {
         let keys = if round % 2 == 0 {
@@ -72,22 +70,45 @@ fn all_rounds(work: Work, rounds: u64, a: &KeySet, b: &KeySet) -> Result<u64, Ke
     Ok(found)
 }
 
-fn main(rt: HostRuntime) -> Result<()> {
-    let timed = env::args(&rt)?.count() > 1;
-    for (count, rounds) in [(64, 20_000), (4096, 300)] {
-        let a = shared_rows(rt.alloc(), count)?;
-        let b = shared_rows(rt.alloc(), count)?;
-        for work in [Work::Conflicts, Work::Touches, Work::Union] {
-            let start = Instant::now(&rt)?;
-            let found = all_rounds(work, if timed { rounds } else { 1 }, &a, &b)?;
-            let nanos = start.elapsed(&rt)?.as_nanos();
-            if timed {
-                let each = nanos / u128::from(rounds);
-                println!(rt; "{:>9} of {:>4} keys: {:>9} ns", work.name(), count, each)?;
-            } else {
-                println!(rt; "{} of {} keys: {}", work.name(), count, found)?;
-            }
-        }
+fn time(rt: &impl Clock, work: Work, rounds: u32, a: &KeySet, b: &KeySet) -> Result<Measure> {
+    let start = Instant::now(rt)?;
+    let found = all_rounds(work, rounds, a, b)?;
+    let nanos = start.elapsed(rt)?.as_nanos();
+    Ok(Measure { found, nanos })
+}
+
+fn report(rt: &impl Print, name: &str, keys: u16, rounds: Rounds, told: Measure) -> Result<()> {
+    if rounds.timed {
+        let each = told.each(rounds.count);
+        println!(rt; "{:>9} of {:>4} keys: {:>9} ns", name, keys, each)?;
+    } else {
+        println!(rt; "{} of {} keys: {}", name, keys, told.found)?;
     }
     Ok(())
+}
+
+// All works on two sets of so many keys.
+fn measure<T: Clock + Print>(rt: &T, alloc: Global, keys: u16, rounds: Rounds) -> Result<()> {
+    let a = shared_rows(alloc, keys)?;
+    let b = shared_rows(alloc, keys)?;
+    for work in [Work::Conflicts, Work::Touches, Work::Union] {
+        let told = time(rt, work, rounds.count, &a, &b)?;
+        report(rt, work.name(), keys, rounds, told)?;
+    }
+    Ok(())
+}
+
+/// Prints a line of each work on sets of 64 and of 4,096 keys.
+pub fn measure_all<T: Clock + Print>(rt: &T, alloc: Global, timed: bool) -> Result<()> {
+    let [small, large] = if timed { [20_000, 300] } else { [1, 1] };
+    let rounds = Rounds {
+        count: small,
+        timed,
+    };
+    measure(rt, alloc, 64, rounds)?;
+    let rounds = Rounds {
+        count: large,
+        timed,
+    };
+    measure(rt, alloc, 4096, rounds)
 }

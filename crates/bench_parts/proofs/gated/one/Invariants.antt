@@ -1,5 +1,5 @@
 use Rattle.std.proofs.Common.{◌≡◌}
-use Rattle.bench_gate.proofs.gated.one.Given as goal
+use Rattle.bench_parts.proofs.gated.one.Given as goal
 
 abbrev pub invariant-loop : goal.invariant-loop
 invariant-loop g l = (l.seat.gate ≡ l.gate) × (l.seat.number ≡ l.number)

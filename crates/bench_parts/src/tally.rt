@@ -25,7 +25,9 @@ impl Tally {
 
     pub fn add(&mut self, seat: u64) -> Result<(), NoMemory>
         ensures name { self.new.name ≡ self.old.name }
-        ensures turns { MatchResult result (λ _. self.new.turns.items ≡ self.old.turns.items ++ seat ∷ []) (λ _. self.new.turns.items ≡ self.old.turns.items) }
+        ensures turns { MatchResult result
+            (λ _. self.new.turns.items ≡ self.old.turns.items ++ seat ∷ [])
+            (λ _. self.new.turns.items ≡ self.old.turns.items) }
     {
         self.turns.push(seat)?;
         Ok(())
