@@ -1,16 +1,8 @@
-//! Tests over the public calls of the crates that are parts of a node: each call that can answer
-//! that there is no memory is made once where it is ample. It has nothing else.
+//! Tests over the public calls of parts that no node uses yet: each call that can answer that there
+//! is no memory is made once where it is ample. It has nothing else.
 #![tactic(auto)]
 
 #[cfg(test)]
-mod groups;
-#[cfg(test)]
-mod locks;
-#[cfg(test)]
-mod nodes;
+mod fragments;
 #[cfg(test)]
 mod rings;
-#[cfg(test)]
-mod rows;
-#[cfg(test)]
-mod transactions;
