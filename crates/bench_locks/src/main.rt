@@ -10,6 +10,7 @@ use row_locks::{Grant, Holder, LockTable};
 use row_model::{Op, Row, RowId};
 use std::alloc::Global;
 use std::env;
+use std::rt::Clock;
 use std::time::Instant;
 use undo_rows::{Overlay, Rows};
 use wsrep_base::NoMemory;
@@ -150,28 +151,56 @@ fn all_rounds(work: Work, rounds: u32, tables: &mut Tables) -> Result<u64, NoMem
     Ok(found)
 }
 
+// So many rounds, and how long they took.
+fn time(rt: &impl Clock, work: Work, rounds: u32, tables: &mut Tables) -> Result<(u64, u128)> {
+    let start = Instant::now(rt)?;
+    let found = all_rounds(work, rounds, tables)?;
+    Ok((found, start.elapsed(rt)?.as_nanos()))
+}
+
 // One measure: one round and what it found, or nanoseconds a round.
-fn measure(
-    rt: HostRuntime,
+fn measure<T: Clock + Print>(
+    rt: &T,
     timed: bool,
     work: Work,
     beside: &str,
     count: u32,
     tables: &mut Tables,
 ) -> Result<()> {
-    let rounds = if timed { 20_000 } else { 1 };
-    let start = Instant::now(&rt)?;
-    let found = all_rounds(work, rounds, tables)?;
-    let nanos = start.elapsed(&rt)?.as_nanos();
     let name = work.name();
     if timed {
-        let each = nanos / u128::from(rounds);
+        let (_, nanos) = time(rt, work, 20_000, tables)?;
+        let each = nanos / 20_000;
         println!(rt;
             "{:>16} beside {:>6} {}: {:>6} ns",
             name, count, beside, each
         )?;
     } else {
+        let (found, _) = time(rt, work, 1, tables)?;
         println!(rt; "{} beside {} {}: {}", name, count, beside, found)?;
+    }
+    Ok(())
+}
+
+// The lines beside so many entries of four sessions.
+fn measure_filled<T: Clock + Print>(rt: &T, alloc: Global, timed: bool, count: u32) -> Result<()> {
+    let mut tables = Tables::filled(alloc, count)?;
+    for work in [
+        Work::Check,
+        Work::GrantAndRelease,
+        Work::Committed,
+        Work::WriteAndRollBack,
+    ] {
+        measure(rt, timed, work, "entries", count, &mut tables)?;
+    }
+    Ok(())
+}
+
+// The lines beside so many holders.
+fn measure_held<T: Clock + Print>(rt: &T, alloc: Global, timed: bool, count: u32) -> Result<()> {
+    let mut tables = Tables::held(alloc, count)?;
+    for work in [Work::Check, Work::CheckFree, Work::GrantAndRelease] {
+        measure(rt, timed, work, "holders", count, &mut tables)?;
     }
     Ok(())
 }
@@ -179,21 +208,10 @@ fn measure(
 fn main(rt: HostRuntime) -> Result<()> {
     let timed = env::args(&rt)?.count() > 1;
     for count in [1_000, 100_000] {
-        let mut tables = Tables::filled(rt.alloc(), count)?;
-        for work in [
-            Work::Check,
-            Work::GrantAndRelease,
-            Work::Committed,
-            Work::WriteAndRollBack,
-        ] {
-            measure(rt, timed, work, "entries", count, &mut tables)?;
-        }
+        measure_filled(&rt, rt.alloc(), timed, count)?;
     }
     for count in [1, 60, 4_000] {
-        let mut tables = Tables::held(rt.alloc(), count)?;
-        for work in [Work::Check, Work::CheckFree, Work::GrantAndRelease] {
-            measure(rt, timed, work, "holders", count, &mut tables)?;
-        }
+        measure_held(&rt, rt.alloc(), timed, count)?;
     }
     Ok(())
 }
