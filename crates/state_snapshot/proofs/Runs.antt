@@ -1,5 +1,5 @@
 -- Reading items one behind the other, as a loop does.
-use Rattle.std.proofs.Common.{◌≡◌, ℕ, suc, ◌+◌, ◌-◌, ◌<◌, ◌≤◌, Bool, true, false, cond, is_some, List, [], ◌∷◌, ◌++◌, Option, None, Some, Ok, Err, refl, sym, ap, ◌∙◌, append_assoc, arith}
+use Rattle.std.proofs.Common.{◌≡◌, ℕ, suc, ◌+◌, ◌-◌, ◌<◌, ◌≤◌, cond, is_some, List, [], ◌∷◌, ◌++◌, Option, None, Some, Ok, Err, refl, sym, ap, ◌∙◌, append_assoc, arith}
 use Rattle.std.proofs.lemmas.List.{append-nil}
 use Rattle.std.proofs.lemmas.Bool.Decides.{nat_tests}
 use Rattle.std.specs.Prelude.{nat_lt, nat_le, not, ◌&&◌, is_none}
@@ -110,6 +110,6 @@ full_with n None most = grind (arith, nat_tests)
 full_with n (Some kind) most = grind (arith, nat_tests)
 
 -- it has too many where the set is full and the parts are new
-pub passes_is : (keys : Keys) (parts : Parts) (kind : Kind) → len keys ≤ 4096
+pub full_is : (keys : Keys) (parts : Parts) (kind : Kind) → len keys ≤ 4096
     → nat_lt 4096 (len (with_key keys parts kind)) ≡ nat_le 4096 (len keys) && is_none (get keys parts)
-passes_is keys parts kind most = ap (nat_lt 4096) (len-with_key keys parts kind) ∙ full_with (len keys) (get keys parts) most
+full_is keys parts kind most = ap (nat_lt 4096) (len-with_key keys parts kind) ∙ full_with (len keys) (get keys parts) most

@@ -9,9 +9,10 @@ use Rattle.finite_map.specs.FiniteMap.{empty, get, len}
 use Rattle.wsrep_base.specs.declared.ids.TrxId.{TrxId}
 use Rattle.wsrep_base.specs.Trx.{trx_cmp}
 use Rattle.wsrep_base.specs.StateId.{nil_id}
+use Rattle.wsrep_base.specs.declared.limits.TheConstants.{MOST_EVENTS}
 use Rattle.key_sets.specs.declared.kind.Kind.{Kind}
 use Rattle.key_sets.specs.declared.parts.Parts.{Parts}
-use Rattle.key_sets.specs.Keys.{Keys, with_key, with_keys}
+use Rattle.key_sets.specs.Keys.{Keys, LIMIT, with_key, with_keys}
 use Rattle.row_model.specs.declared.row.RowId.{RowId}
 use Rattle.row_model.specs.declared.row.RowItem.{RowItem}
 use Rattle.row_model.specs.declared.ops.Op.{Op}
@@ -20,6 +21,7 @@ use Rattle.write_set.specs.declared.fault.WsFault.{WsFault}
 use Rattle.write_set.specs.declared.fault.WsFault.TheVariants as part
 use Rattle.write_set.specs.declared.names.NameRole.TheVariants as role
 use Rattle.write_set.specs.Rules.{is_exclusive, is_update_kind, row_parts, table_parts}
+use Rattle.write_set.specs.declared.rules.TheConstants.{MOST_OPS}
 use Rattle.write_set.specs.Place.{Place, place_in}
 use Rattle.write_set.specs.Reading.{◌>>=◌, Read, refuse, bytes_at, number_at, many_at, name_at, key_at, is_above, keys_at, values_at, op_body_at}
 use Rattle.cert_meaning.specs.declared.items.CommitItem.{CommitItem}
@@ -52,7 +54,7 @@ head_at p = do
   id ← bytes_at 16 form.1
   given ← refuse (bytes_eq id.0 nil_id) (part.NotCanonical form.1.at)
   number ← number_at w64 id.1
-  few ← refuse (nat_lt 500_000 number.0) (part.NotCanonical id.1.at)
+  few ← refuse (nat_lt MOST_EVENTS number.0) (part.NotCanonical id.1.at)
   floor ← number_at w64 number.1
   within ← refuse (nat_lt number.0 floor.0) (part.NotCanonical number.1.at)
   version ← number_at w32 floor.1
@@ -62,7 +64,8 @@ head_at p = do
 abbrev pub no_members : ℕ → MembersSoFar
 no_members count = record { left = count; least = 0; reached = false }
 
--- a report is between the floor and the number of the state, and the last one makes the floor the least
+-- a report is between the floor and the number of the state, and the last one makes the floor the
+-- least
 abbrev pub report_fits : Head → MembersSoFar → ℕ → Bool
 report_fits head so_far report =
     nat_le head.floor report && nat_le report head.number
@@ -137,7 +140,7 @@ unfoldable pub whole_key_at
 whole_key_at so_far p = do
   key ← key_at p
   rising ← refuse (not (is_above so_far.0 key.0.0)) (part.NotCanonical p.at)
-  few ← refuse (nat_lt 4096 (len (with_key so_far.1 key.0.0 key.0.1))) (part.NotCanonical p.at)
+  few ← refuse (nat_lt LIMIT (len (with_key so_far.1 key.0.0 key.0.1))) (part.NotCanonical p.at)
   Ok ((key.0, (Some key.0.0, with_key so_far.1 key.0.0 key.0.1)), key.1)
 
 -- the keys that are read, added to two sets
@@ -149,7 +152,7 @@ with_both keys whole (Err fault) = Err fault
 unfoldable pub whole_keys_at : Keys → Place → Read (Keys × Keys)
 whole_keys_at whole p = do
   count ← number_at w32 p
-  few ← refuse (nat_lt 4096 count.0) (part.TooMany p.at)
+  few ← refuse (nat_lt LIMIT count.0) (part.TooMany p.at)
   with_both empty whole (each_at whole_key_at count.0 (None, whole) count.1)
 
 -- whether a key covers a change of the row
@@ -173,10 +176,11 @@ covered_op_at keys p = do
 unfoldable pub covered_ops_at : Keys → Place → Read (List Op)
 covered_ops_at keys p = do
   count ← number_at w32 p
-  few ← refuse (nat_lt 8192 count.0) (part.TooMany p.at)
+  few ← refuse (nat_lt MOST_OPS count.0) (part.TooMany p.at)
   many_at (covered_op_at keys) count.0 count.1
 
--- of a transaction's fragments: the least number of the next, the last seen of the last, and all keys
+-- of a transaction's fragments: the least number of the next, the last seen of the last, and all
+-- keys
 pub record FragmentsSoFar : Type 0 where
   pub least : ℕ
   pub last_seen : ℕ
@@ -197,10 +201,13 @@ fragment_at most so_far p = do
   number ← number_at w64 p
   rising ← refuse (nat_lt number.0 so_far.least || nat_lt most number.0) (part.NotCanonical p.at)
   seen ← number_at w64 number.1
-  fits ← refuse (nat_le number.0 seen.0 || nat_lt seen.0 so_far.last_seen) (part.NotCanonical number.1.at)
+  fits ←
+      refuse (nat_le number.0 seen.0 || nat_lt seen.0 so_far.last_seen)
+      (part.NotCanonical number.1.at)
   keys ← whole_keys_at so_far.whole seen.1
   ops ← covered_ops_at keys.0.0 keys.1
-  let fragment : Fragment = record { number = number.0; last_seen = seen.0; keys = keys.0.0; ops = ops.0 } in
+  let fragment : Fragment =
+      record { number = number.0; last_seen = seen.0; keys = keys.0.0; ops = ops.0 } in
       Ok ((fragment, with_fragment fragment keys.0.1), ops.1)
 
 unfoldable pub fragments_at : ℕ → Place → Read (List Fragment)
@@ -225,7 +232,9 @@ is_trx_above (Some last) trx = is_lt (trx_cmp last trx)
 unfoldable pub open_at : ℕ → List MemberItem → Option TrxId → Place → Read (OpenItem × Option TrxId)
 open_at most members last p = do
   member ← number_at w32 p
-  known ← refuse (not (is_listed members member.0 && is_member_from last member.0)) (part.NotCanonical p.at)
+  known ←
+      refuse (not (is_listed members member.0 && is_member_from last member.0))
+      (part.NotCanonical p.at)
   begin ← number_at w64 member.1
   let trx : TrxId = record { member = member.0; begin = begin.0 } in do
     rising ← refuse (not (is_trx_above last trx)) (part.NotCanonical member.1.at)

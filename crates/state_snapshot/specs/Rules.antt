@@ -6,8 +6,11 @@ use Rattle.finite_map.specs.FiniteMap.{len}
 use Rattle.wsrep_base.specs.declared.ids.TrxId.{TrxId}
 use Rattle.wsrep_base.specs.Trx.{least}
 use Rattle.wsrep_base.specs.StateId.{nil_id}
+use Rattle.wsrep_base.specs.declared.limits.TheConstants.{MOST_EVENTS}
+use Rattle.key_sets.specs.Keys.{LIMIT}
 use Rattle.row_model.specs.declared.row.RowId.{RowId}
 use Rattle.row_model.specs.declared.row.RowItem.{RowItem}
+use Rattle.write_set.specs.declared.rules.TheConstants.{MOST_OPS}
 use Rattle.write_set.specs.Rules.{place_fits, uncovered_from}
 use Rattle.write_set.specs.Laws.{AreKeys, AreOps}
 use Rattle.cert_meaning.specs.declared.items.CommitItem.{CommitItem}
@@ -54,7 +57,8 @@ pub record CommitsObey (number floor : ℕ) (commits : List CommitItem) : Type 0
   pub rise : RiseWithin floor number commits
   pub keyed : AllByRecursion (λ (commit : CommitItem). AreKeys commit.keys) commits
 
--- the fragments strictly rise from one number up to another; what each has seen is less, and never falls
+-- the fragments strictly rise from one number up to another; what each has seen is less, and never
+-- falls
 abbrev pub FragmentsRise : ℕ → ℕ → ℕ → List Fragment → Type 0
 FragmentsRise most from seen [] = Unit {0}
 FragmentsRise most from seen (fragment ∷ fragments) =
@@ -76,7 +80,7 @@ pub record OpenObeys (number : ℕ) (members : List MemberItem) (item : OpenItem
   pub rise : FragmentsRise number 0 0 item.fragments
   pub each : AllByRecursion FragmentObeys item.fragments
   -- all its keys are few
-  pub few : len (fragment_keys item.fragments) ≤ 4096
+  pub few : len (fragment_keys item.fragments) ≤ LIMIT
 
 -- the open transactions strictly rise, behind the one that there may be before them
 abbrev pub OpenRise : Option TrxId → List OpenItem → Type 0
@@ -85,7 +89,7 @@ OpenRise last (item ∷ items) = IsTrue (is_trx_above last item.trx) × OpenRise
 
 -- all the rules
 pub record Obeys (parts : StateParts) : Type 0 where
-  pub number : parts.number ≤ 500_000
+  pub number : parts.number ≤ MOST_EVENTS
   pub floor : parts.floor ≤ parts.number
   pub members : MembersObey parts.number parts.floor parts.members
   pub rows : RowsObey parts.rows
@@ -102,4 +106,4 @@ IsGiven id = IsTrue (not (bytes_eq id nil_id))
 abbrev pub OpenIsCounted : OpenItem → Type 0
 OpenIsCounted item =
     AreCounted item.fragments
-    × AllByRecursion (λ (fragment : Fragment). length fragment.ops ≤ 8192) item.fragments
+    × AllByRecursion (λ (fragment : Fragment). length fragment.ops ≤ MOST_OPS) item.fragments

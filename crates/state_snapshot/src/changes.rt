@@ -69,7 +69,8 @@ fn some_covered_ops_of<'a>(
     count: u32,
     cursor: Cursor<'a>,
 ) -> Result<(OpList, Cursor<'a>), WsFault>
-    ensures { Gives (λ x. (x.0, x.1)) result (many_at (covered_op_at keys.now) count cursor.entry) }
+    ensures { Gives (λ x. (x.0, x.1)) result
+        (many_at (covered_op_at keys.now) count cursor.entry) }
 {
     let mut ops = OpList::new(alloc);
     let mut rest = cursor;

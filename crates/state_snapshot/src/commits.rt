@@ -1,5 +1,4 @@
 //! The commits of a snapshot.
-ghost use Rattle.std.specs.Prelude.{◌≡◌};
 ghost use Rattle.write_set.specs.Reading.{Gives};
 ghost use Rattle.state_snapshot.specs.Reading.{each_at, commit_at, commits_at};
 
@@ -40,7 +39,8 @@ fn some_commits_of<'a>(
     count: u32,
     cursor: Cursor<'a>,
 ) -> Result<(CommitList, Cursor<'a>), WsFault>
-    ensures { Gives (λ x. (x.0, x.1)) result (each_at (commit_at head.now.number) count head.now.floor cursor.entry) }
+    ensures { Gives (λ x. (x.0, x.1)) result
+        (each_at (commit_at head.now.number) count head.now.floor cursor.entry) }
 {
     let mut commits = CommitList::new(alloc);
     let mut last = head.floor;

@@ -1,5 +1,6 @@
 //! The fragments of an open transaction.
 ghost use Rattle.std.specs.Prelude.{◌≡◌, ◌≤◌, IfOk};
+ghost use Rattle.wsrep_base.specs.declared.limits.TheConstants.{MOST_EVENTS};
 ghost use Rattle.write_set.specs.Reading.{Gives};
 ghost use Rattle.state_snapshot.specs.Reading.{with_fragment, no_fragments, each_at, fragment_at, fragments_at};
 
@@ -20,7 +21,9 @@ fn fragment_of<'a>(
     whole: &mut KeySet,
     cursor: Cursor<'a>,
 ) -> Result<(Fragment, Cursor<'a>), WsFault>
-    ensures read { Gives (λ x. ((x.0, with_fragment x.0 whole.new), x.1)) result (fragment_at most (record { least = least; last_seen = last_seen; whole = whole.old }) cursor.entry) }
+    ensures read { Gives (λ x. ((x.0, with_fragment x.0 whole.new), x.1)) result
+        (fragment_at most (record { least = least; last_seen = last_seen; whole = whole.old })
+        cursor.entry) }
     ensures number { IfOk result (λ x. x.0.number ≤ most) }
 {
     let at = cursor.at();
@@ -50,8 +53,9 @@ fn some_fragments_of<'a>(
     count: u32,
     cursor: Cursor<'a>,
 ) -> Result<(FragmentList, Cursor<'a>), WsFault>
-    requires { most ≤ 500000 }
-    ensures { Gives (λ x. (x.0, x.1)) result (each_at (fragment_at most) count no_fragments cursor.entry) }
+    requires { most ≤ MOST_EVENTS }
+    ensures { Gives (λ x. (x.0, x.1)) result
+        (each_at (fragment_at most) count no_fragments cursor.entry) }
 {
     let mut fragments = FragmentList::new(alloc);
     let mut least = 0;
@@ -81,7 +85,7 @@ pub(crate) fn fragments_of<'a>(
     most: u64,
     cursor: Cursor<'a>,
 ) -> Result<(FragmentList, Cursor<'a>), WsFault>
-    requires { most ≤ 500000 }
+    requires { most ≤ MOST_EVENTS }
     ensures { Gives (λ x. (x.0, x.1)) result (fragments_at most cursor.entry) }
 {
     let at = cursor.at();

@@ -1,18 +1,17 @@
 //! What stands before the members.
 ghost use Rattle.std.specs.Prelude.{◌≡◌, ◌≤◌, length, IfOk};
+ghost use Rattle.wsrep_base.specs.declared.limits.TheConstants.{MOST_EVENTS};
 ghost use Rattle.write_set.specs.Reading.{Gives};
 ghost use Rattle.state_snapshot.specs.Reading.{head_at};
 
 use write_set::{Cursor, WsFault};
+use wsrep_base::MOST_EVENTS;
 
 /// The first byte of a snapshot.
 pub(crate) const MARK: u8 = 0x53;
 
 /// The version of the format.
 pub(crate) const VERSION: u8 = 1;
-
-/// The most events of a state.
-pub(crate) const MOST_EVENTS: u64 = 500_000;
 
 /// The id of a state, and its numbers.
 #[derive(Clone, Copy, Debug)]
@@ -39,7 +38,7 @@ fn id_in(field: &[u8]) -> [u8; 16]
 #[tactic(auto, unfolding(crate::specs::Reading::head_at))]
 pub(crate) fn head_of<'a>(cursor: Cursor<'a>) -> Result<(Head, Cursor<'a>), WsFault>
     ensures read { Gives (λ x. (x.0, x.1)) result (head_at cursor.entry) }
-    ensures few { IfOk result (λ x. x.0.number ≤ 500000) }
+    ensures few { IfOk result (λ x. x.0.number ≤ MOST_EVENTS) }
 {
     let at = cursor.at();
     let (mark, rest) = cursor.number8()?;

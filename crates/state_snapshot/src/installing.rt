@@ -1,6 +1,7 @@
 //! Making a state from its snapshot.
-ghost use Rattle.std.specs.Prelude.{◌≡◌};
+ghost use Rattle.std.specs.Prelude.{◌≡◌, IfOk};
 ghost use Rattle.write_set.specs.Reading.{Gives as Reads};
+ghost use Rattle.state_snapshot.specs.Laws.{IsSnapshot};
 ghost use Rattle.state_snapshot.specs.Reading.{Gives, installed, read};
 
 use crate::commits::commits_of;
@@ -39,9 +40,7 @@ fn read_parts(alloc: Global, bytes: &[u8]) -> Result<(StateParts, [u8; 16]), WsF
     Ok((parts, head.id))
 }
 
-/// The state and its id that the bytes spell, all of the bytes; else the first fault that is met
-/// from left to right. It gives room only for what is there.
-pub fn install(alloc: Global, bytes: &[u8]) -> Result<(FoldState, StateId), SnapFault>
+fn installed_state(alloc: Global, bytes: &[u8]) -> Result<(FoldState, StateId), SnapFault>
     ensures { Gives (λ x. (x.0, x.1)) result (installed bytes.now) }
 {
     let (parts, id) = match read_parts(alloc, bytes) {
@@ -52,4 +51,15 @@ pub fn install(alloc: Global, bytes: &[u8]) -> Result<(FoldState, StateId), Snap
         Ok(state) => Ok((state, StateId::of_bytes(id))),
         Err(_) => Err(SnapFault::NoMemory),
     }
+}
+
+/// The state and its id that the bytes spell, all of the bytes; else the first fault that is met
+/// from left to right. It gives room only for what is there.
+pub fn install(alloc: Global, bytes: &[u8]) -> Result<(FoldState, StateId), SnapFault>
+    // What is installed is trimmed and meets the rules, and the bytes are its snapshot.
+    ensures found { IfOk result (λ x. IsSnapshot bytes.now x.0 x.1) }
+    // Which state or fault it is.
+    ensures exact { Gives (λ x. (x.0, x.1)) result (installed bytes.now) }
+{
+    installed_state(alloc, bytes)
 }

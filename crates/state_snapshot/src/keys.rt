@@ -22,9 +22,10 @@ fn is_above(before: &Option<Parts>, parts: &Parts) -> bool
 }
 
 // Whether the set has too many keys once it has this one.
-#[tactic(auto, using(crate::proofs::Runs::passes_is))]
+#[tactic(auto, using(crate::proofs::Runs::full_is))]
 fn passes(whole: &KeySet, parts: &Parts) -> bool
-    ensures { (kind : Kind) → result ≡ nat_lt LIMIT (len (with_key whole.now parts.now kind)) }
+    ensures { (kind : Kind)
+        → result ≡ nat_lt LIMIT (len (with_key whole.now parts.now kind)) }
 {
     let is_full = whole.len() >= KeySet::LIMIT;
     let is_new = whole.kind_at(parts).is_none();
@@ -32,13 +33,14 @@ fn passes(whole: &KeySet, parts: &Parts) -> bool
 }
 
 // Reads a key behind the one before it, and adds it to the keys of the transaction.
-#[tactic(auto, using(crate::proofs::Runs::passes_is), unfolding(crate::specs::Reading::whole_key_at))]
+#[tactic(auto, using(crate::proofs::Runs::full_is), unfolding(crate::specs::Reading::whole_key_at))]
 fn whole_key_of<'a>(
     before: &Option<Parts>,
     whole: &mut KeySet,
     cursor: Cursor<'a>,
 ) -> Result<(Parts, Kind, Cursor<'a>), WsFault>
-    ensures { Gives (λ x. (((x.0, x.1), (Some x.0, whole.new)), x.2)) result (whole_key_at (before.now, whole.old) cursor.entry) }
+    ensures { Gives (λ x. (((x.0, x.1), (Some x.0, whole.new)), x.2)) result
+        (whole_key_at (before.now, whole.old) cursor.entry) }
 {
     let at = cursor.at();
     let (parts, kind, rest) = key_of(cursor)?;
@@ -63,7 +65,8 @@ fn some_whole_keys_of<'a>(
     cursor: Cursor<'a>,
 ) -> Result<(KeySet, Cursor<'a>), WsFault>
     requires { count ≤ LIMIT }
-    ensures { Gives (λ x. ((x.0, whole.new), x.1)) result (with_both empty whole.old (each_at whole_key_at count (None, whole.old) cursor.entry)) }
+    ensures { Gives (λ x. ((x.0, whole.new), x.1)) result
+        (with_both empty whole.old (each_at whole_key_at count (None, whole.old) cursor.entry)) }
 {
     let mut keys = KeySet::new(alloc)?;
     let mut before = None;
@@ -96,7 +99,7 @@ pub(crate) fn whole_keys_of<'a>(
 {
     let at = cursor.at();
     let (count, rest) = cursor.number32()?;
-    if count > 4096 {
+    if count as usize > KeySet::LIMIT {
         return Err(WsFault::TooMany(at));
     }
     some_whole_keys_of(alloc, whole, count, rest)

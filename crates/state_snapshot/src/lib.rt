@@ -9,6 +9,7 @@ mod fragments;
 mod head;
 mod installing;
 mod keys;
+mod laws;
 mod members;
 mod open_trx;
 mod rows;
@@ -17,4 +18,5 @@ mod writing;
 
 pub use fault::SnapFault;
 pub use installing::install;
+pub use laws::one_spelling;
 pub use taking::take;

@@ -1,5 +1,5 @@
 //! The members of a snapshot.
-ghost use Rattle.std.specs.Prelude.{◌≡◌, ◌≤◌};
+ghost use Rattle.std.specs.Prelude.{◌≡◌};
 ghost use Rattle.write_set.specs.Reading.{Gives};
 ghost use Rattle.state_snapshot.specs.Reading.{report_fits, with_member, no_members, each_at, member_at, members_at};
 
@@ -53,7 +53,8 @@ fn member_of<'a>(
     so_far: &MembersSoFar,
     cursor: Cursor<'a>,
 ) -> Result<(MemberItem, Cursor<'a>), WsFault>
-    ensures { Gives (λ x. ((x.0, with_member head.now so_far.now x.0), x.1)) result (member_at head.now so_far.now cursor.entry) }
+    ensures { Gives (λ x. ((x.0, with_member head.now so_far.now x.0), x.1)) result
+        (member_at head.now so_far.now cursor.entry) }
 {
     let at = cursor.at();
     let (member, rest) = cursor.number32()?;
@@ -80,7 +81,8 @@ fn some_members_of<'a>(
     count: u32,
     cursor: Cursor<'a>,
 ) -> Result<(MemberItemList, Cursor<'a>), WsFault>
-    ensures { Gives (λ x. (x.0, x.1)) result (each_at (member_at head.now) count (no_members count) cursor.entry) }
+    ensures { Gives (λ x. (x.0, x.1)) result
+        (each_at (member_at head.now) count (no_members count) cursor.entry) }
 {
     let mut members = MemberItemList::new(alloc);
     let mut so_far = no_members(count);

@@ -1,6 +1,7 @@
 //! The open transactions of a snapshot.
 ghost use Rattle.std.specs.Prelude.{◌≡◌, ◌≤◌, nat_eq, map, None, Some, IfOk};
 ghost use Rattle.std.specs.HashSet.{IsFromIterResult};
+ghost use Rattle.wsrep_base.specs.declared.limits.TheConstants.{MOST_EVENTS};
 ghost use Rattle.write_set.specs.Reading.{Gives};
 ghost use Rattle.state_snapshot.specs.Reading.{is_member_from, is_trx_above, each_at, open_at, open_trx_at};
 
@@ -47,9 +48,10 @@ fn open_of<'a>(
     last: &Option<TrxId>,
     cursor: Cursor<'a>,
 ) -> Result<(OpenItem, Cursor<'a>), WsFault>
-    requires most { most ≤ 500000 }
+    requires most { most ≤ MOST_EVENTS }
     requires numbers { IsFromIterResult nat_eq (map (λ item. item.member) members.now) numbers.now }
-    ensures { Gives (λ x. ((x.0, Some x.0.trx), x.1)) result (open_at most members.now last.now cursor.entry) }
+    ensures { Gives (λ x. ((x.0, Some x.0.trx), x.1)) result
+        (open_at most members.now last.now cursor.entry) }
 {
     let at = cursor.at();
     let (member, rest) = cursor.number32()?;
@@ -73,8 +75,9 @@ fn some_open_of<'a>(
     count: u32,
     cursor: Cursor<'a>,
 ) -> Result<(OpenList, Cursor<'a>), WsFault>
-    requires { most ≤ 500000 }
-    ensures { Gives (λ x. (x.0, x.1)) result (each_at (open_at most members.now) count None cursor.entry) }
+    requires { most ≤ MOST_EVENTS }
+    ensures { Gives (λ x. (x.0, x.1)) result
+        (each_at (open_at most members.now) count None cursor.entry) }
 {
     let numbers = numbers_of(alloc, members)?;
     let mut open_trx = OpenList::new(alloc);
@@ -103,7 +106,7 @@ pub(crate) fn open_trx_of<'a>(
     members: &[MemberItem],
     cursor: Cursor<'a>,
 ) -> Result<(OpenList, Cursor<'a>), WsFault>
-    requires { most ≤ 500000 }
+    requires { most ≤ MOST_EVENTS }
     ensures { Gives (λ x. (x.0, x.1)) result (open_trx_at most members.now cursor.entry) }
 {
     let (count, rest) = cursor.number32()?;

@@ -7,7 +7,6 @@ ghost use Rattle.state_snapshot.specs.Spelling.{above_floor, trimmed, snapshot_o
 use crate::writing::spelled;
 use bytes::Bytes;
 use cert_meaning::{CommitItem, CommitList, FoldState, StateParts};
-use std::alloc::Global;
 use wsrep_base::{NoMemory, StateId};
 
 fn drop_to_floor(commits: &mut Vec<CommitItem>, floor: u64)

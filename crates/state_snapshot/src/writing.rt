@@ -1,7 +1,8 @@
 //! Writing the parts of a state as bytes.
 ghost use Rattle.std.specs.Prelude.{◌≡◌, ◌++◌, ◌≤◌, length, IfOk, OnOk};
 ghost use Rattle.std.specs.List.{AllByRecursion};
-ghost use Rattle.state_snapshot.specs.Rules.{AreCounted, FragmentObeys, OpenIsCounted, Obeys};
+ghost use Rattle.write_set.specs.declared.rules.TheConstants.{MOST_OPS};
+ghost use Rattle.state_snapshot.specs.Rules.{AreCounted, OpenIsCounted, Obeys};
 ghost use Rattle.state_snapshot.specs.Spelling.{counted_text, trx_text, member_text, row_item_text, commit_text, fragment_text, open_text, numbers_text, head_text, spelling};
 
 use crate::head::{MARK, VERSION};
@@ -76,7 +77,7 @@ fn put_commits(out: &mut ByteList, commits: &[CommitItem]) -> Result<(), NoMemor
 }
 
 fn put_fragment(out: &mut ByteList, fragment: &Fragment) -> Result<(), NoMemory>
-    requires { length fragment.now.ops ≤ 8192 }
+    requires { length fragment.now.ops ≤ MOST_OPS }
     ensures { OnOk result (out.new ≡ out.old ++ fragment_text fragment.now) }
 {
     put_u64(out, fragment.number)?;
@@ -87,7 +88,7 @@ fn put_fragment(out: &mut ByteList, fragment: &Fragment) -> Result<(), NoMemory>
 
 fn put_fragments(out: &mut ByteList, fragments: &[Fragment]) -> Result<(), NoMemory>
     requires counted { AreCounted fragments.now }
-    requires few { AllByRecursion (λ fragment. length fragment.ops ≤ 8192) fragments.now }
+    requires few { AllByRecursion (λ fragment. length fragment.ops ≤ MOST_OPS) fragments.now }
     ensures { OnOk result (out.new ≡ out.old ++ counted_text fragment_text fragments.now) }
 {
     put_u32(out, fragments.len() as u32)?;

@@ -1,4 +1,3 @@
-use Rattle.std.proofs.Common.{Some, None}
 use Rattle.state_snapshot.specs.Reading.{each_at, commit_at}
 use Rattle.state_snapshot.proofs.Runs.{goes_on, ends, is_done}
 use Rattle.state_snapshot.proofs.commits.some_commits_of.Goals as goal

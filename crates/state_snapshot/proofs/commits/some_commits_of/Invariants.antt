@@ -1,4 +1,4 @@
-use Rattle.std.proofs.Common.{◌≡◌, ◌-◌, None}
+use Rattle.std.proofs.Common.{◌≡◌, ◌-◌}
 use Rattle.state_snapshot.specs.Reading.{each_at, commit_at}
 use Rattle.wsrep_base.proofs.Fields.{with_front}
 use Rattle.state_snapshot.proofs.commits.some_commits_of.Given as goal

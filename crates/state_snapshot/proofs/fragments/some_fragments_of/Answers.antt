@@ -1,4 +1,3 @@
-use Rattle.std.proofs.Common.{Some, None}
 use Rattle.state_snapshot.specs.Reading.{each_at, fragment_at, no_fragments, with_fragment}
 use Rattle.state_snapshot.proofs.Runs.{goes_on, ends, is_done}
 use Rattle.state_snapshot.proofs.fragments.some_fragments_of.Goals as goal

@@ -1,4 +1,4 @@
-use Rattle.std.proofs.Common.{◌≡◌, ◌-◌, None}
+use Rattle.std.proofs.Common.{◌≡◌, ◌-◌}
 use Rattle.state_snapshot.specs.Reading.{each_at, fragment_at, no_fragments}
 use Rattle.wsrep_base.proofs.Fields.{with_front}
 use Rattle.state_snapshot.proofs.fragments.some_fragments_of.Given as goal

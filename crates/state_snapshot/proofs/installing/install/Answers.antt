@@ -1,6 +1,7 @@
--- The commits that are read rise.
-use Rattle.state_snapshot.proofs.CommitRuns.{read_rise}
+use Rattle.std.proofs.Common.{arith}
+use Rattle.state_snapshot.proofs.StateLaws.{is_found}
 use Rattle.state_snapshot.proofs.installing.install.Goals as goal
 
-pub of-requires : goal.of-requires
-of-requires c = read_rise c.args.bytes.now (c.in-Ok.read.0, c.in-Ok.read.1) c.in-Ok.ensures
+pub returns-clause-found : goal.returns-clause-found
+returns-clause-found c =
+    is_found c.args.bytes.now c.installed_state.result (λ i. omega (arith, c.type_inv.bytes i)) c.installed_state.ensures

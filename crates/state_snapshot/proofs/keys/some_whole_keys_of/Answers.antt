@@ -1,4 +1,4 @@
-use Rattle.std.proofs.Common.{◌≡◌, ◌-◌, arith, ap, None, ◌∙◌, sym}
+use Rattle.std.proofs.Common.{◌≡◌, ◌-◌, arith, ap, None}
 use Rattle.finite_map.specs.FiniteMap.{empty, len-empty}
 use Rattle.key_sets.specs.Parts.{parts_cmp}
 use Rattle.key_sets.specs.declared.kind.Kind.{Kind}

@@ -1,4 +1,3 @@
-use Rattle.std.proofs.Common.{Some, None}
 use Rattle.state_snapshot.specs.Reading.{each_at, member_at, no_members, with_member}
 use Rattle.state_snapshot.proofs.Runs.{goes_on, ends, is_done}
 use Rattle.state_snapshot.proofs.members.some_members_of.Goals as goal

@@ -1,4 +1,4 @@
-use Rattle.std.proofs.Common.{◌≡◌, ◌-◌, None}
+use Rattle.std.proofs.Common.{◌≡◌, ◌-◌}
 use Rattle.state_snapshot.specs.Reading.{each_at, member_at, no_members}
 use Rattle.wsrep_base.proofs.Fields.{with_front}
 use Rattle.state_snapshot.proofs.members.some_members_of.Given as goal
