@@ -14,4 +14,5 @@ pub mod FragmentLaws
 pub mod OpenLaws
 pub mod WholeLaws
 pub mod StateLaws
+pub mod FaultLaws
 mod WorkedRow

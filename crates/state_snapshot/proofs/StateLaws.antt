@@ -162,14 +162,14 @@ installed_from (Err fault) y e = absurd cc
 
 is_snapshot : (bytes : List ℕ) (parts : StateParts) (id : List ℕ) → IsSpelled bytes parts id → IsSnapshot bytes (state_of parts) id
 is_snapshot bytes parts id is =
-    let back : parts ≡ parts_of (state_of parts) = sym (parts_back parts is.rules) in
     let trimmed = trimmed_so parts is.rules in
+    let back : parts ≡ parts_of (trim (state_of parts)) = sym (parts_back parts is.rules) ∙ ap parts_of (sym trimmed) in
     record {
       trimmed = trimmed;
       rules = subst Obeys back is.rules;
       range = subst PartsInRange back is.range;
       given = is.given;
-      spelled = is.spelled ∙ ap (λ own. spelling own id) back ∙ ap (λ s. spelling (parts_of s) id) (sym trimmed);
+      spelled = is.spelled ∙ ap (λ own. spelling own id) back;
     }
 
 pub only_snapshots : OnlySnapshotsAreInstalled

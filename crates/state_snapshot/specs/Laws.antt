@@ -49,8 +49,8 @@ pub record PartsInRange (parts : StateParts) : Type 0 where
 -- the state is trimmed and meets the rules, and the bytes are its snapshot with the id
 pub record IsSnapshot (bytes : List ℕ) (s : FoldState) (id : List ℕ) : Type 0 where
   pub trimmed : trim s ≡ s
-  pub rules : Obeys (parts_of s)
-  pub range : PartsInRange (parts_of s)
+  pub rules : Obeys (parts_of (trim s))
+  pub range : PartsInRange (parts_of (trim s))
   pub given : IsGiven id
   pub spelled : bytes ≡ snapshot_of s id
 

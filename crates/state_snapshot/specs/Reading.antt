@@ -269,6 +269,20 @@ read bytes = do
   ended ← refuse (not (length opened.1.left == 0)) (part.Trailing opened.1.at)
   Ok (state_parts head.0 members.0 rows.0 commits.0 opened.0, head.0.id)
 
+-- whether the fault is met in a part of a snapshot: three are of whole write sets alone
+abbrev pub is_met : WsFault → Bool
+is_met (part.Short at) = true
+is_met (part.BadVersion byte) = false
+is_met part.BadFlags = false
+is_met (part.TooMany at) = true
+is_met (part.BadKey at) = true
+is_met (part.BadKind at) = true
+is_met (part.NotCanonical at) = true
+is_met (part.BadChange at) = true
+is_met (part.Trailing at) = true
+is_met (part.Uncovered index) = false
+is_met part.NoMemory = true
+
 -- the fault of a snapshot, by that of its part; the last three are met in no part
 abbrev pub fault_of : WsFault → SnapFault
 fault_of (part.Short at) = Short at

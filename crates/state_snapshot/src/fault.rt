@@ -1,5 +1,5 @@
-ghost use Rattle.std.specs.Prelude.{◌≡◌};
-ghost use Rattle.state_snapshot.specs.Reading.{fault_of};
+ghost use Rattle.std.specs.Prelude.{◌≡◌, IsTrue};
+ghost use Rattle.state_snapshot.specs.Reading.{fault_of, is_met};
 
 use std::alloc::AllocError;
 use thiserror::Error;
@@ -35,6 +35,7 @@ impl From<AllocError> for SnapFault {
 
 /// The fault of a snapshot that a part has which write sets have too.
 pub(crate) fn fault_of(fault: WsFault) -> SnapFault
+    requires { IsTrue (is_met fault) }
     ensures { result ≡ fault_of fault }
 {
     match fault {
@@ -46,9 +47,9 @@ pub(crate) fn fault_of(fault: WsFault) -> SnapFault
         WsFault::NotCanonical(at) => SnapFault::NotCanonical(at),
         WsFault::BadChange(at) => SnapFault::NotCanonical(at),
         WsFault::NoMemory => SnapFault::NoMemory,
-        // No part has these.
-        WsFault::BadVersion(_) => SnapFault::NotCanonical(0),
-        WsFault::BadFlags => SnapFault::NotCanonical(0),
-        WsFault::Uncovered(_) => SnapFault::NotCanonical(0),
+        // These are of whole write sets, which a snapshot has none of.
+        WsFault::BadVersion(_) => unreachable!(),
+        WsFault::BadFlags => unreachable!(),
+        WsFault::Uncovered(_) => unreachable!(),
     }
 }

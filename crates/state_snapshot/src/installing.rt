@@ -1,5 +1,5 @@
 //! Making a state from its snapshot.
-ghost use Rattle.std.specs.Prelude.{◌≡◌, IfOk};
+ghost use Rattle.std.specs.Prelude.{IfOk};
 ghost use Rattle.write_set.specs.Reading.{Gives as Reads};
 ghost use Rattle.state_snapshot.specs.Laws.{IsSnapshot};
 ghost use Rattle.state_snapshot.specs.Reading.{Gives, installed, read};
