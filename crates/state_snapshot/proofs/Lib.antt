@@ -15,4 +15,5 @@ pub mod OpenLaws
 pub mod WholeLaws
 pub mod StateLaws
 pub mod FaultLaws
+pub mod OrderLaws
 mod WorkedRow

@@ -38,7 +38,7 @@ members_again : (entries : List (ℕ × Standing)) → map member_entry (map mem
 members_again [] = refl
 members_again (entry ∷ entries) = ap (λ others. entry ∷ others) (members_again entries)
 
-abbrev row_item : RowId × List ℕ → RowItem
+abbrev pub row_item : RowId × List ℕ → RowItem
 row_item entry = record { id = entry.0; row = entry.1 }
 
 row_items_again : (items : List RowItem) → map row_item (map row_entry items) ≡ items
@@ -139,7 +139,7 @@ state_back s =
     }
 
 -- commits above the floor all stay
-all_above : (floor above most : ℕ) (commits : List CommitItem) → floor ≤ above → RiseWithin above most commits
+pub all_above : (floor above most : ℕ) (commits : List CommitItem) → floor ≤ above → RiseWithin above most commits
     → filter (λ (commit : CommitItem). nat_lt floor commit.number) commits ≡ commits
 all_above floor above most [] low rise = refl
 all_above floor above most (commit ∷ commits) low rise =

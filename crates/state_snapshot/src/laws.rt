@@ -1,9 +1,19 @@
-//! The law between the snapshot of a state and the reading of bytes.
+//! The laws of snapshots, each as the contract of a call that does nothing.
 
 ghost use Rattle.state_snapshot.specs.Laws.{SnapshotIsInstalled, OnlySnapshotsAreInstalled};
+ghost use Rattle.state_snapshot.specs.Orders.{HoldsAtEach, NumbersFit, MembersFit, CommitsFit, StandInOrder};
 
 /// What is taken is installed again as the trimmed state, and no other bytes are installed.
 pub fn one_spelling()
     ensures again { SnapshotIsInstalled }
     ensures only { OnlySnapshotsAreInstalled }
+{}
+
+/// The state at each point of an order of up to 500,000 events, over views of fewer than 2^32
+/// members, meets these rules of a snapshot once it is trimmed.
+pub fn order_rules()
+    ensures numbers { HoldsAtEach NumbersFit }
+    ensures members { HoldsAtEach MembersFit }
+    ensures commits { HoldsAtEach CommitsFit }
+    ensures in_order { HoldsAtEach StandInOrder }
 {}
