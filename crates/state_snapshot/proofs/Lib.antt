@@ -16,4 +16,6 @@ pub mod WholeLaws
 pub mod StateLaws
 pub mod FaultLaws
 pub mod OrderLaws
+pub mod Entries
+pub mod TrxLaws
 mod WorkedRow

@@ -38,7 +38,7 @@ use Rattle.state_snapshot.proofs.StateLaws.{row_item, all_above}
 -- ---- the head
 
 pub numbers_fit : HoldsAtEach NumbersFit
-numbers_fit order n there few views =
+numbers_fit order n there few fits =
     let settled = settled_at order n in
     (subst (λ k. k ≤ MOST_EVENTS) (sym (number-at order n there)) few, settled.floor)
 
@@ -175,12 +175,12 @@ items_counted (entry ∷ entries) = ap suc (items_counted entries)
 
 pub members_fit : HoldsAtEach MembersFit
 unfolding len
-members_fit order n there few views =
+members_fit order n there few fits =
     let s = state_at order n in
     let settled = settled_at order n in
     let entries = s.members.entries in
     record {
-      counted = subst (λ k. k < 2 ^ 32) (sym (items_counted entries)) (few_at order n views);
+      counted = subst (λ k. k < 2 ^ 32) (sym (items_counted entries)) (few_at order n fits.views);
       rise = members_rise entries (rises_all nat_cmp_total entries (entries_sorted nat_cmp_total s.members));
       reported = all_reported s.floor s.number entries settled.reports;
       least = ap (λ reports. unwrap_or (least reports) s.floor) (reports_same entries) ∙ least_at order n;
@@ -213,7 +213,7 @@ how_many above most (commit ∷ commits) low rise =
     let rest = how_many commit.number most commits rise.1 rise.2 in omega (arith, rest, rise.0)
 
 pub commits_fit : HoldsAtEach CommitsFit
-commits_fit order n there few views =
+commits_fit order n there few fits =
     let s = state_at order n in
     let settled = settled_at order n in
     let number : n ≡ s.number = sym (number-at order n there) in
@@ -242,7 +242,7 @@ open_rise [] rises = tt
 open_rise (entry ∷ entries) rises = (refl, open_above entry.0 entries rises)
 
 pub stand_in_order : HoldsAtEach StandInOrder
-stand_in_order order n there few views =
+stand_in_order order n there few fits =
     let s = state_at order n in
     (
       rows_rise s.rows.entries (rises_all row_total s.rows.entries (entries_sorted row_total s.rows)),

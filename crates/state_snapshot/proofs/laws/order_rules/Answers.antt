@@ -1,4 +1,5 @@
 use Rattle.state_snapshot.proofs.OrderLaws.{numbers_fit, members_fit, commits_fit, stand_in_order}
+use Rattle.state_snapshot.proofs.TrxLaws.{open_fit}
 use Rattle.state_snapshot.proofs.laws.order_rules.Goals as goal
 
 pub returns-clause-numbers : goal.returns-clause-numbers
@@ -12,3 +13,6 @@ returns-clause-commits c = commits_fit
 
 pub returns-clause-in_order : goal.returns-clause-in_order
 returns-clause-in_order c = stand_in_order
+
+pub returns-clause-open_trx : goal.returns-clause-open_trx
+returns-clause-open_trx c = open_fit
