@@ -18,4 +18,5 @@ pub mod FaultLaws
 pub mod OrderLaws
 pub mod Entries
 pub mod TrxLaws
+pub mod SizeLaws
 mod WorkedRow

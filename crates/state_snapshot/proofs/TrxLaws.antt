@@ -90,10 +90,10 @@ none_is None h = refl
 none_is (Some n) h = absurd cc
 
 -- the keys and changes of a write set meet the rules of a fragment
-abbrev SetObeys : WriteSet → Type 0
+abbrev pub SetObeys : WriteSet → Type 0
 SetObeys w = AreKeys w.keys × AreOps w.ops × (uncovered_from 0 w.keys w.ops ≡ None)
 
-set_obeys : (body : List ℕ) (w : WriteSet) → ((i : ℕ) → slice_index body i < 256) → decoded body ≡ Some w → SetObeys w
+pub set_obeys : (body : List ℕ) (w : WriteSet) → ((i : ℕ) → slice_index body i < 256) → decoded body ≡ Some w → SetObeys w
 set_obeys body w fits is =
     let spelled = read_takes body w fits (decoded_read (read body) w is) in
     let rules = rules_of w spelled.0 in (
@@ -143,7 +143,7 @@ joins s member w passes stays =
 
 -- ---- members stay
 
-abbrev Members : Type 0
+abbrev pub Members : Type 0
 Members = FiniteMap nat_cmp Standing
 
 -- each member of the one is a member of the other
@@ -200,7 +200,7 @@ pub record IsGood (number : ℕ) (members : Members) (entry : TrxId × List Frag
   pub order : AreInOrder number entry.1
   pub few : len (fragment_keys entry.1) ≤ LIMIT
 
-abbrev AllGood : ℕ → Members → FiniteMap trx_cmp (List Fragment) → Type 0
+abbrev pub AllGood : ℕ → Members → FiniteMap trx_cmp (List Fragment) → Type 0
 AllGood number members opened = AllByRecursion (IsGood number members) opened.entries
 
 good_wider : (number : ℕ) (members more : Members) (entry : TrxId × List Fragment) → Stay members more → IsGood number members entry
@@ -232,7 +232,7 @@ in_order_or number members trx None good = record { rise = tt; each = tt }
 in_order_or number members trx (Some fragments) good = let one = good fragments refl in one.order
 
 module _ (s : FoldState) (all : AllGood s.number s.members s.open_trx) where
-  before : (trx : TrxId) → AreInOrder s.number (fragments_of s trx)
+  pub before : (trx : TrxId) → AreInOrder s.number (fragments_of s trx)
   before trx =
       in_order_or s.number s.members trx (get s.open_trx trx)
       (λ fragments is. found transactions (IsGood s.number s.members) s.open_trx trx fragments all is)
@@ -272,7 +272,7 @@ no_rollback : (b : Bool) (rest : Judged) → IsTaken (effect_of (cond b became.R
 no_rollback true rest taken = absurd taken
 no_rollback false rest taken = refl
 
-taken_passes : (w : WriteSet) (verdict : Verdict) → IsTaken (effect_of (judged_as w verdict)) → (verdict ≡ Pass) × (is_rollback w ≡ false)
+pub taken_passes : (w : WriteSet) (verdict : Verdict) → IsTaken (effect_of (judged_as w verdict)) → (verdict ≡ Pass) × (is_rollback w ≡ false)
 taken_passes w Pass taken = (refl, no_rollback (is_rollback w) _ taken)
 taken_passes w Malformed taken = absurd taken
 taken_passes w Stranger taken = absurd taken
@@ -335,7 +335,7 @@ good_next : (s : FoldState) (o : Option Event) → ((member : ℕ) (body : List 
 good_next s None fits all = all
 good_next s (Some event) fits all = good_after s all event (λ member body is. fits member body (ap Some is))
 
-good_at : (order : List Event) (n : ℕ)
+pub good_at : (order : List Event) (n : ℕ)
     → ((k member : ℕ) (body : List ℕ) → slice_get order k ≡ Some (Write member body) → (i : ℕ) → slice_index body i < 256)
     → AllGood (state_at order n).number (state_at order n).members (state_at order n).open_trx
 unfolding state_at no_events empty

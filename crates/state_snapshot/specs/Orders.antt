@@ -42,6 +42,10 @@ abbrev pub OpenFit : StateParts → Type 0
 OpenFit parts =
     AllByRecursion (OpenObeys parts.number parts.members) parts.open_trx
 
+-- rows and open transactions are so few that counts in four bytes say how many
+abbrev pub ItemsAreCounted : StateParts → Type 0
+ItemsAreCounted parts = AreCounted parts.rows × AreCounted parts.open_trx
+
 -- rows and open transactions stand in their order
 abbrev pub StandInOrder : StateParts → Type 0
 StandInOrder parts = RowsRise None parts.rows × OpenRise None parts.open_trx

@@ -1,7 +1,7 @@
 //! The laws of snapshots, each as the contract of a call that does nothing.
 
 ghost use Rattle.state_snapshot.specs.Laws.{SnapshotIsInstalled, OnlySnapshotsAreInstalled};
-ghost use Rattle.state_snapshot.specs.Orders.{HoldsAtEach, NumbersFit, MembersFit, CommitsFit, StandInOrder, OpenFit};
+ghost use Rattle.state_snapshot.specs.Orders.{HoldsAtEach, NumbersFit, MembersFit, CommitsFit, StandInOrder, ItemsAreCounted, OpenFit};
 
 /// What is taken is installed again as the trimmed state, and no other bytes are installed.
 pub fn one_spelling()
@@ -16,5 +16,6 @@ pub fn order_rules()
     ensures members { HoldsAtEach MembersFit }
     ensures commits { HoldsAtEach CommitsFit }
     ensures in_order { HoldsAtEach StandInOrder }
+    ensures counted { HoldsAtEach ItemsAreCounted }
     ensures open_trx { HoldsAtEach OpenFit }
 {}

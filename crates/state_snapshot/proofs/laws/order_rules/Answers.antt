@@ -1,4 +1,5 @@
 use Rattle.state_snapshot.proofs.OrderLaws.{numbers_fit, members_fit, commits_fit, stand_in_order}
+use Rattle.state_snapshot.proofs.SizeLaws.{items_are_counted}
 use Rattle.state_snapshot.proofs.TrxLaws.{open_fit}
 use Rattle.state_snapshot.proofs.laws.order_rules.Goals as goal
 
@@ -16,3 +17,6 @@ returns-clause-in_order c = stand_in_order
 
 pub returns-clause-open_trx : goal.returns-clause-open_trx
 returns-clause-open_trx c = open_fit
+
+pub returns-clause-counted : goal.returns-clause-counted
+returns-clause-counted c = items_are_counted
