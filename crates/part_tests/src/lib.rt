@@ -3,6 +3,8 @@
 #![tactic(auto)]
 
 #[cfg(test)]
+mod folds;
+#[cfg(test)]
 mod fragments;
 #[cfg(test)]
 mod rings;
