@@ -15,8 +15,11 @@ pub mod OpenLaws
 pub mod WholeLaws
 pub mod StateLaws
 pub mod FaultLaws
+pub mod Points
 pub mod OrderLaws
 pub mod Entries
 pub mod TrxLaws
 pub mod SizeLaws
+pub mod FormLaws
+pub mod TakeLaws
 mod WorkedRow

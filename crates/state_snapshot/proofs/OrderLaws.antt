@@ -7,13 +7,12 @@ use Rattle.std.specs.Ordering.{is_lt, nat_cmp}
 use Rattle.std.specs.declared.cmp.Ordering.TheVariants.{Less}
 use Rattle.std.specs.Cmp.{nat_cmp_total, ranked}
 use Rattle.std.proofs.lemmas.Bool.{ltb-true}
-use Rattle.finite_map.specs.FiniteMap.{FiniteMap, empty, get, insert, len, from_entries, len-empty, len-insert}
+use Rattle.finite_map.specs.FiniteMap.{FiniteMap, empty, get, insert, len, len-empty, len-insert}
 use Rattle.finite_map.proofs.Edits.{numbers, len-over}
 use Rattle.wsrep_base.specs.declared.ids.TrxId.{TrxId}
 use Rattle.wsrep_base.specs.declared.limits.TheConstants.{MOST_EVENTS}
-use Rattle.wsrep_base.specs.Trx.{least, trx_cmp}
+use Rattle.wsrep_base.specs.Trx.{least}
 use Rattle.row_model.specs.declared.row.RowId.{RowId}
-use Rattle.row_model.specs.declared.row.RowItem.{RowItem}
 use Rattle.row_model.specs.RowOrder.{row_total}
 use Rattle.order_event.specs.declared.event.Event.{Event}
 use Rattle.order_event.specs.declared.event.Event.TheVariants.{Write, View, Report}
@@ -25,13 +24,13 @@ use Rattle.cert_meaning.specs.declared.members.Standing.{Standing}
 use Rattle.cert_meaning.specs.declared.parts.MemberItem.{MemberItem}
 use Rattle.cert_meaning.specs.State.{FoldState, RiseWithin, no_events}
 use Rattle.cert_meaning.specs.Parts.{member_item, open_item}
-use Rattle.cert_meaning.specs.Fold.{Effect, Same, Closes, Adds, Commits, effect_of, judged_write, affected, written, with_serial, standing_in, members_in, reported, changed_by, floor_over, after, after_next, state_at}
+use Rattle.cert_meaning.specs.Fold.{Effect, Same, Closes, Adds, Commits, effect_of, judged_write, affected, written, standing_in, members_in, reported, changed_by, floor_over, after, after_next, state_at}
 use Rattle.cert_meaning.proofs.FoldLaws.{number-at}
 use Rattle.cert_meaning.proofs.CommitLaws.{commits-rise}
 use Rattle.cert_meaning.proofs.FloorLaws.{settled_at}
 use Rattle.cert_meaning.proofs.TrxLemmas.{trx_total}
-use Rattle.state_snapshot.specs.Rules.{AreCounted, MembersRise, MembersObey, RowsRise, OpenRise}
-use Rattle.state_snapshot.specs.Orders.{HoldsAtEach, NumbersFit, MembersFit, CommitsFit, StandInOrder}
+use Rattle.state_snapshot.specs.Rules.{AreCounted, MembersRise, RowsRise, OpenRise}
+use Rattle.state_snapshot.proofs.Points.{HoldsAtEach, NumbersFit, MembersFit, CommitsFit, StandInOrder}
 use Rattle.state_snapshot.proofs.Sorted.{less_is, KeysRise, rises_all, entries_sorted}
 use Rattle.state_snapshot.proofs.StateLaws.{row_item, all_above}
 
@@ -243,8 +242,7 @@ open_rise (entry ∷ entries) rises = (refl, open_above entry.0 entries rises)
 
 pub stand_in_order : HoldsAtEach StandInOrder
 stand_in_order order n there few fits =
-    let s = state_at order n in
-    (
+    let s = state_at order n in (
       rows_rise s.rows.entries (rises_all row_total s.rows.entries (entries_sorted row_total s.rows)),
       open_rise s.open_trx.entries (rises_all trx_total s.open_trx.entries (entries_sorted trx_total s.open_trx)),
     )

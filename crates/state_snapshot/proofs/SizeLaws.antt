@@ -1,6 +1,6 @@
 -- How many rows and open transactions there are: an event adds at most one transaction, and to the rows and the changes of
 -- open fragments at most the changes of one write set.
-use Rattle.std.proofs.Common.{◌≡◌, ℕ, zero, suc, ◌+◌, ◌*◌, ◌^◌, ◌<◌, ◌≤◌, Bool, true, false, cond, is_some, List, [], ◌∷◌, ◌++◌, length, map, Option, Some, None, refl, sym, ap, subst, ◌∙◌, arith}
+use Rattle.std.proofs.Common.{◌≡◌, ℕ, zero, suc, ◌+◌, ◌*◌, ◌<◌, ◌≤◌, Bool, true, false, cond, List, [], ◌∷◌, ◌++◌, length, map, Option, Some, None, refl, sym, ap, subst, ◌∙◌, arith}
 use Rattle.std.specs.Prelude.{◌&&◌, not, nat_lt, nat_le, slice_get, slice_index, unwrap_or, flat_map}
 use Rattle.std.specs.List.{list_all}
 use Rattle.std.specs.Ordering.{eq_by_cmp}
@@ -9,14 +9,13 @@ use Rattle.std.specs.declared.cmp.Ordering.TheVariants.{Less, Equal, Greater}
 use Rattle.std.specs.FinMap.Entries.{put, find, where_key, by_order}
 use Rattle.std.proofs.lemmas.Bool.{leb-true}
 use Rattle.std.proofs.lemmas.List.{length-append}
-use Rattle.finite_map.specs.FiniteMap.{FiniteMap, empty, get, insert, remove, retain_keys, len, contains_key, len-empty, len-insert, len_before_remove, get-entries, entries-insert}
+use Rattle.finite_map.specs.FiniteMap.{FiniteMap, empty, get, insert, remove, retain_keys, len, contains_key, len-insert, len_before_remove, entries-insert}
 use Rattle.finite_map.proofs.Edits.{insert-remove}
 use Rattle.wsrep_base.specs.declared.ids.TrxId.{TrxId}
-use Rattle.wsrep_base.specs.declared.limits.TheConstants.{MOST_EVENTS}
 use Rattle.wsrep_base.specs.Trx.{trx_cmp}
 use Rattle.row_model.specs.declared.ops.Op.{Op}
 use Rattle.row_model.specs.declared.row.RowId.{RowId}
-use Rattle.row_model.specs.Rows.{Rows, row_cmp, row_after, id_of, with_row, op_on, ops_on}
+use Rattle.row_model.specs.Rows.{Rows, row_after, id_of, with_row, op_on, ops_on}
 use Rattle.row_model.specs.RowOrder.{row_total}
 use Rattle.order_event.specs.declared.event.Event.{Event}
 use Rattle.order_event.specs.declared.event.Event.TheVariants.{Write, View, Report}
@@ -34,7 +33,7 @@ use Rattle.cert_meaning.specs.Verdict.{trx_of}
 use Rattle.cert_meaning.specs.Fold.{Effect, Same, Closes, Adds, Commits, effect_of, judged_write, affected, written, is_of, fragment_by, reported, changed_by, after, after_next, state_at}
 use Rattle.cert_meaning.proofs.FoldLaws.{number-at, number-after}
 use Rattle.cert_meaning.proofs.TrxLemmas.{transactions, trx_total}
-use Rattle.state_snapshot.specs.Orders.{OrderFits, HoldsAtEach, ItemsAreCounted}
+use Rattle.state_snapshot.proofs.Points.{HoldsAtEach, ItemsAreCounted}
 use Rattle.state_snapshot.proofs.StateLaws.{row_item}
 use Rattle.state_snapshot.proofs.TrxLaws.{SetObeys, set_obeys}
 
@@ -85,7 +84,7 @@ changes_left trx (e ∷ es) =
     (changes_kept (λ other. not (eq_by_cmp trx_cmp trx other)) es) (changes_left trx es)
 
 changes_more : (fragments : List Fragment) (last : Fragment) → changes_of (fragments ++ last ∷ []) ≡ changes_of fragments + length last.ops
-changes_more [] last = length-append last.ops []  ∙ omega arith
+changes_more [] last = length-append last.ops [] ∙ omega arith
 changes_more (fragment ∷ fragments) last =
     let later = changes_more fragments last in
     let all = length-append fragment.ops (flat_map (λ (other : Fragment). other.ops) (fragments ++ last ∷ [])) in

@@ -8,8 +8,8 @@ use Rattle.std.specs.Ordering.{eq_by_cmp, nat_cmp}
 use Rattle.std.specs.Cmp.{nat_cmp_total, both_ways, unsigned_tied}
 use Rattle.std.specs.FinMap.Entries.{is_some-find}
 use Rattle.std.proofs.lemmas.Bool.{ltb-false, eqb-true, eq-eqb}
-use Rattle.finite_map.specs.FiniteMap.{FiniteMap, empty, get, insert, remove, retain_keys, len, get-empty, get-insert, get-entries}
-use Rattle.key_sets.specs.Keys.{Keys, LIMIT, union}
+use Rattle.finite_map.specs.FiniteMap.{FiniteMap, empty, get, insert, remove, len, get-empty, get-insert, get-entries}
+use Rattle.key_sets.specs.Keys.{Keys, LIMIT}
 use Rattle.wsrep_base.specs.declared.ids.TrxId.{TrxId}
 use Rattle.wsrep_base.specs.declared.verdict.Verdict.{Verdict}
 use Rattle.wsrep_base.specs.declared.verdict.Verdict.TheVariants.{Pass, Malformed, Stranger, Repeat, Future, Stale, Broken, Conflict, Held}
@@ -32,15 +32,15 @@ use Rattle.cert_meaning.specs.declared.members.Standing.{Standing}
 use Rattle.cert_meaning.specs.declared.parts.MemberItem.{MemberItem}
 use Rattle.cert_meaning.specs.State.{FoldState, no_events, is_member, serial_of, fragments_of, last_seen_of, fragment_keys, whole_keys}
 use Rattle.cert_meaning.specs.Parts.{member_item, open_item}
-use Rattle.cert_meaning.specs.Verdict.{verdict, trx_of, is_rollback, is_out_of_place, is_broken, conflict_or_held, conflict_of, held_by}
+use Rattle.cert_meaning.specs.Verdict.{verdict, trx_of, is_rollback, is_out_of_place, is_broken}
 use Rattle.cert_meaning.specs.Fold.{Effect, Same, Closes, Adds, Commits, effect_of, judged_as, judged_write, affected, written, standing_in, members_in, is_of, fragment_by, reported, changed_by, after, after_next, state_at}
 use Rattle.cert_meaning.proofs.FoldLaws.{number-after}
 use Rattle.cert_meaning.proofs.TrxLemmas.{transactions}
 use Rattle.cert_meaning.proofs.VerdictLaws.{IsTaken, taken-passed}
 use Rattle.cert_meaning.proofs.WholeLemmas.{fragment_keys-more}
 use Rattle.state_snapshot.specs.Reading.{is_listed}
-use Rattle.state_snapshot.specs.Rules.{AreCounted, FragmentsRise, FragmentObeys, OpenObeys}
-use Rattle.state_snapshot.specs.Orders.{OrderFits, HoldsAtEach, OpenFit}
+use Rattle.state_snapshot.specs.Rules.{FragmentsRise, FragmentObeys, OpenObeys}
+use Rattle.state_snapshot.proofs.Points.{HoldsAtEach, OpenFit}
 use Rattle.state_snapshot.proofs.Entries.{all_map, all_insert, found, all_kept}
 use Rattle.state_snapshot.proofs.OrderLaws.{numbers_fit}
 
@@ -360,8 +360,7 @@ all_obey number members [] few all = tt
 all_obey number members (entry ∷ entries) few all =
     let good = all.0 in
     let order = good.order in
-    let count = how_many number 0 0 entry.1 (omega arith) order.rise in
-    (
+    let count = how_many number 0 0 entry.1 (omega arith) order.rise in (
       record {
         listed = is_listed_in members entry.0.member good.own;
         counted = omega (arith, count, few);

@@ -18,5 +18,5 @@ mod writing;
 
 pub use fault::SnapFault;
 pub use installing::install;
-pub use laws::{one_spelling, order_rules};
+pub use laws::{can_be_taken, one_spelling};
 pub use taking::take;
