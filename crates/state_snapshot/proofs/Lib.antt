@@ -22,4 +22,6 @@ pub mod TrxLaws
 pub mod SizeLaws
 pub mod FormLaws
 pub mod TakeLaws
+pub mod SetRange
+pub mod RangeLaws
 mod WorkedRow

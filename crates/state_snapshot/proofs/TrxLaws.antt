@@ -125,7 +125,7 @@ pub record Joins (s : FoldState) (member : ℕ) (w : WriteSet) : Type 0 where
   pub own : is_member s w.member ≡ true
   pub later : last_seen_of (fragments_of s (trx_of w)) ≤ w.last_seen
 
-joins : (s : FoldState) (member : ℕ) (w : WriteSet) → verdict s member w ≡ Pass → is_rollback w ≡ false → Joins s member w
+pub joins : (s : FoldState) (member : ℕ) (w : WriteSet) → verdict s member w ≡ Pass → is_rollback w ≡ false → Joins s member w
 unfolding verdict is_broken
 joins s member w passes stays =
     let one = later (not (is_member s member) || not (w.member == member)) Stranger _ (λ is. cc) passes in
