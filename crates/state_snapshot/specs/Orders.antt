@@ -14,9 +14,10 @@ use Rattle.state_snapshot.specs.Laws.{PartsInRange}
 pub record OrderFits (order : List Event) : Type 0 where
   pub views : (k version : ℕ) (members : List ℕ) → slice_get order k ≡ Some (View version members)
       → AreCounted members
-  pub versions : (k version : ℕ) (members : List ℕ) → slice_get order k ≡ Some (View version members)
-      → version < 2 ^ 32
-  pub members : (k version : ℕ) (members : List ℕ) → slice_get order k ≡ Some (View version members)
+  pub versions : (k version : ℕ) (members : List ℕ)
+      → slice_get order k ≡ Some (View version members) → version < 2 ^ 32
+  pub members : (k version : ℕ) (members : List ℕ)
+      → slice_get order k ≡ Some (View version members)
       → AllByRecursion (λ member. member < 2 ^ 32) members
   pub bodies : (k member : ℕ) (body : List ℕ) → slice_get order k ≡ Some (Write member body)
       → (i : ℕ) → slice_index body i < 256
