@@ -1,0 +1,219 @@
+-- What holds over the order so far holds when one more event is certified: an event of another member,
+-- a view that has the member, or the member's own oldest pending write set, which is decided.
+use Rattle.std.proofs.Common.{◌≡◌, ℕ, ◌+◌, ◌≤◌, ◌<◌, Bool, true, false, cond, List, [], ◌∷◌, ◌++◌, length, Option, Some, None, refl, ap, sym, subst, ◌∙◌, arith, eq-eqb, true≢false}
+use Rattle.std.specs.Prelude.{◌==◌, ◌||◌, not, nat_lt, is_some, unwrap_or}
+use Rattle.std.specs.List.{AllByRecursion}
+use Rattle.std.specs.Ordering.{nat_cmp}
+use Rattle.std.proofs.lemmas.List.Sums.{fold-append}
+use Rattle.std.proofs.lemmas.Option.{same_Some}
+use Rattle.finite_map.specs.FiniteMap.{FiniteMap, get, len}
+use Rattle.wsrep_base.specs.declared.ids.TrxId.{TrxId}
+use Rattle.wsrep_base.specs.declared.verdict.Verdict.TheVariants as verdict
+use Rattle.wsrep_base.specs.declared.verdict.Judged.TheVariants as became
+use Rattle.key_sets.specs.Keys.{LIMIT}
+use Rattle.order_event.specs.declared.event.Event.{Event}
+use Rattle.order_event.specs.declared.event.Event.TheVariants.{Write, View, Report}
+use Rattle.write_set.specs.declared.write_set.WriteSet.{WriteSet}
+use Rattle.write_set.specs.Reading.{decoded}
+use Rattle.cert_meaning.specs.declared.items.Fragment.{Fragment}
+use Rattle.cert_meaning.specs.declared.members.Standing.{Standing}
+use Rattle.cert_meaning.specs.State.{FoldState, fragments_of, last_seen_of, whole_keys}
+use Rattle.cert_meaning.specs.Verdict as rules
+use Rattle.cert_meaning.specs.Verdict.{trx_of, is_rollback, is_broken, is_start}
+use Rattle.cert_meaning.specs.Fold.{Adds, effect_of, judged_as, judged_write, after, fragment_by}
+use Rattle.cert_meaning.proofs.VerdictLaws.{IsDecided}
+use Rattle.client_trx.specs.Live.{Live}
+use Rattle.node_meaning.specs.Facts.{IsOurs, IsFragmentOf}
+use Rattle.node_laws.proofs.SetLists.{unequal}
+use Rattle.node_laws.proofs.Fates.{grown}
+use Rattle.node_laws.proofs.Heads.{count}
+use Rattle.course_laws.specs.Ordered.{IsPlaced, OnlyEnds, HasSent, GoesOn, Entered}
+use Rattle.course_laws.proofs.Members.{IsApart, kept_open, member_own, floor_below}
+use Rattle.course_laws.proofs.Placing.{next_decided, seen_lower}
+
+-- ---- a transaction that stays where it was
+broken_same : (s r : FoldState) (w : WriteSet)
+    → get r.open_trx (trx_of w) ≡ get s.open_trx (trx_of w) → is_broken r w ≡ is_broken s w
+unfolding is_broken
+broken_same s r w same =
+    ap (λ (o : Option (List Fragment)).
+    (cond (is_start w) (is_some o)
+    (not (is_some o) || not (w.fragment == length (unwrap_or o []))))
+    || nat_lt w.last_seen (last_seen_of (unwrap_or o []))
+    || nat_lt LIMIT (len (whole_keys (unwrap_or o []) w.keys))) same
+
+goes_same : (s r : FoldState) (v p : ℕ) (t : Live)
+    → get r.open_trx t.trx ≡ get s.open_trx t.trx → GoesOn s v p t → GoesOn r v p t
+goes_same s r v p t same h = record {
+  synced = h.synced;
+  sent = λ running.
+      let g = h.sent running in record {
+        opened = ap is_some same ∙ g.opened;
+        count = ap (λ (o : Option (List Fragment)). length (unwrap_or o [])) same ∙ g.count;
+        seen = subst (λ (o : Option (List Fragment)). last_seen_of (unwrap_or o []) ≤ p)
+            (sym same) g.seen;
+      };
+}
+
+-- ---- an event that is none of the member's
+module _ (s : FoldState) (e : Event) (m v b serial p : ℕ) (live : FiniteMap nat_cmp Live)
+    (sets : List WriteSet) (h : Entered s m v b serial p live sets)
+    (apart : (trx : TrxId) → trx.member ≡ m → IsApart e trx)
+    (stays : get (after s e).members m ≡ Some h.standing)
+    (mine : (se : ℕ) (t : Live) → get live se ≡ Some t → t.trx.member ≡ m) where
+  abbrev r : FoldState
+  r = after s e
+
+  kept : (trx : TrxId) → trx.member ≡ m → get r.open_trx trx ≡ get s.open_trx trx
+  kept trx member = kept_open s e trx (apart trx member)
+
+  still_placed : (ws : List WriteSet) → AllByRecursion (IsOurs m b p) ws
+      → AllByRecursion (IsPlaced s) ws → AllByRecursion (IsPlaced r) ws
+  still_placed [] ours all = tt
+  still_placed (w ∷ ws) ours all = (
+    λ back. broken_same s r w (kept (trx_of w) ours.0.of_member) ∙ all.0 back,
+    still_placed ws ours.1 all.1,
+  )
+
+  pub beside_entered : AllByRecursion (IsOurs m b p) sets → Entered r m v b serial p live sets
+  beside_entered ours = record {
+    standing = h.standing;
+    is_member = stays;
+    floor = floor_below s e m h.standing stays;
+    reported = h.reported;
+    serials = h.serials;
+    seen = h.seen;
+    placed = still_placed sets ours h.placed;
+    ends = h.ends;
+    each = λ se t there. goes_same s r v p t (kept t.trx (mine se t there)) (h.each se t there);
+    unbegun = λ trx member above. kept trx member ∙ h.unbegun trx member above;
+  }
+
+-- ---- the fragments of a transaction whose fragment passes
+-- what the flags of a fragment say
+record IsFragment (w : WriteSet) (first : Bool) : Type 0 where
+  starts : is_start w ≡ first
+  stays : is_rollback w ≡ false
+  adds : effect_of (judged_as w verdict.Pass) ≡ Adds
+
+is_fragment : (w : WriteSet) (first : Bool) → w.flags ≡ cond first 1 0 → IsFragment w first
+is_fragment w true flags = record {
+  starts = ap (λ f. f == 1 || f == 3) flags;
+  stays = ap (λ f. f == 4) flags;
+  adds = ap (λ f. effect_of (cond (f == 4) became.Rollback
+      (cond (f == 2 || f == 3) became.Commit became.Fragment))) flags;
+}
+is_fragment w false flags = record {
+  starts = ap (λ f. f == 1 || f == 3) flags;
+  stays = ap (λ f. f == 4) flags;
+  adds = ap (λ f. effect_of (cond (f == 4) became.Rollback
+      (cond (f == 2 || f == 3) became.Commit became.Fragment))) flags;
+}
+
+some_open : (o : Option (List Fragment)) (fs : List Fragment) (f : Fragment)
+    → unwrap_or o [] ≡ fs ++ f ∷ [] → is_some o ≡ true
+some_open None [] f is = cc
+some_open None (g ∷ fs) f is = cc
+some_open (Some gs) fs f is = refl
+
+length_push : (fs : List Fragment) (f : Fragment) → length (fs ++ f ∷ []) ≡ length fs + 1
+length_push [] f = refl
+length_push (g ∷ fs) f = omega (arith, length_push fs f)
+
+not_none : (k n : ℕ) → k + 1 ≡ n → not (n == 0) ≡ true
+not_none k n is = ap not (unequal n 0 (λ same. omega (arith, is, same)))
+
+-- ---- the member's own oldest pending write set
+module _ (s : FoldState) (m v b serial p : ℕ) (live : FiniteMap nat_cmp Live) (w : WriteSet)
+    (rest : List WriteSet) (h : Entered s m v b serial p live (w ∷ rest))
+    (ours : AllByRecursion (IsOurs m b p) (w ∷ rest)) (body : List ℕ)
+    (read : decoded body ≡ Some w) (behind : p ≤ s.number) where
+  abbrev next : FoldState
+  next = after s (Write m body)
+
+  -- it is decided
+  pub head_decided : IsDecided (rules.verdict s m w)
+  head_decided =
+      let seen = ours.0.seen in
+      next_decided s m w h.standing (record {
+        is_member = h.is_member;
+        own = ours.0.of_member;
+        serial = h.serials.0;
+        past = omega (arith, seen, behind);
+        fresh = omega (arith, h.floor, h.seen.0);
+        placed = h.placed.0;
+      })
+
+  abbrev st : Standing
+  st = record h.standing { serial = w.serial }
+
+  stands : get next.members m ≡ Some st
+  stands = member_own s m body w h.standing read ours.0.of_member head_decided h.is_member
+
+  others_kept : (trx : TrxId) → (w.begin ≡ trx.begin → ⊥)
+      → get next.open_trx trx ≡ get s.open_trx trx
+  others_kept trx differs =
+      kept_open s (Write m body) trx (λ x x_read sender same.
+      differs (ap (λ (y : WriteSet). y.begin) (same_Some w x (sym read ∙ x_read))
+      ∙ ap (λ (t : TrxId). t.begin) same))
+
+  -- those behind it stay where they may stand
+  behind_placed : (ws : List WriteSet) → AllByRecursion (IsPlaced s) ws → OnlyEnds w ws
+      → AllByRecursion (IsPlaced next) ws
+  behind_placed [] all ends = tt
+  behind_placed (x ∷ ws) all ends = (
+    λ back.
+        broken_same s next x
+            (others_kept (trx_of x) (λ same. true≢false (sym (ends.0 (sym same)) ∙ back)))
+            ∙ all.0 back,
+    behind_placed ws all.1 ends.1,
+  )
+
+  -- so does each other live transaction
+  pub other_goes : (t : Live) → w.begin == t.trx.begin ≡ false → GoesOn s v p t → GoesOn next v p t
+  other_goes t differs g =
+      goes_same s next v p t (others_kept t.trx
+      (λ same. true≢false (sym (eq-eqb w.begin t.trx.begin same) ∙ differs))) g
+
+  -- one whose fragment it is has sent what has passed
+  pub fragment_sent_passed : (t u : Live) → rules.verdict s m w ≡ verdict.Pass → trx_of w ≡ t.trx
+      → IsFragmentOf s t w → u.trx ≡ t.trx → u.sent ≡ t.sent → HasSent next p u
+  fragment_sent_passed t u pass of_trx f same sent =
+      let fs = fragments_of s (trx_of w) in
+      let last = fragment_by s w in
+      let kind = is_fragment w (w.fragment == 0) f.flags in
+      let counted : length (fragments_of s (trx_of w)) ≡ w.fragment =
+      count w s m kind.starts kind.stays pass in
+      let adds : effect_of (judged_write s m (Some w)) ≡ Adds =
+      ap (λ x. effect_of (judged_as w x)) pass ∙ kind.adds in
+      let more : fragments_of next u.trx ≡ fs ++ last ∷ [] =
+      ap (fragments_of next) (same ∙ sym of_trx) ∙ grown s m body w read adds in
+      let seen = ours.0.seen in
+      record {
+        opened = some_open (get next.open_trx u.trx) fs last more
+            ∙ sym (not_none w.fragment u.sent (f.number ∙ sym sent));
+        count = ap length more ∙ length_push fs last ∙ ap (λ k. k + 1) counted ∙ f.number
+            ∙ sym sent;
+        seen = subst (λ all. last_seen_of all ≤ p) (sym more)
+            (subst (λ k. k ≤ p)
+            (sym (fold-append (λ (_ : ℕ) (x : Fragment). x.last_seen) 0 fs (last ∷ []))) seen);
+      }
+
+  -- all of it, where the live transactions are so now
+  pub head_entered : (now : FiniteMap nat_cmp Live)
+      → ((se : ℕ) (t : Live) → get now se ≡ Some t → GoesOn next v p t)
+      → Entered next m v b serial p now rest
+  head_entered now each = record {
+    standing = st;
+    is_member = stands;
+    floor = floor_below s (Write m body) m st stands;
+    reported = h.reported;
+    serials = h.serials.1;
+    seen = seen_lower h.standing.report w.last_seen rest h.seen.0 h.seen.1;
+    placed = behind_placed rest h.placed.1 h.ends.0;
+    ends = h.ends.1;
+    each = each;
+    unbegun = λ trx member above.
+        let begun = ours.0.begun in
+        others_kept trx (λ same. omega (arith, same, begun, above)) ∙ h.unbegun trx member above;
+  }

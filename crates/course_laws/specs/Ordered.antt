@@ -1,0 +1,92 @@
+-- what holds of a node of a cluster over the order so far, beside the facts that hold over any order
+use Rattle.std.specs.Prelude.{◌≡◌, ◌≤◌, ◌<◌, ℕ, ◌==◌, max, not, false, true, List, [], ◌∷◌, length, slice_get, Some, None}
+use Rattle.std.specs.List.{filter_map, list_any, AllByRecursion}
+use Rattle.std.specs.Ordering.{nat_cmp}
+use Rattle.finite_map.specs.FiniteMap.{FiniteMap, get}
+use Rattle.wsrep_base.specs.declared.ids.TrxId.{TrxId}
+use Rattle.order_event.specs.declared.event.Event.{Event}
+use Rattle.order_event.specs.declared.event.Event.TheVariants as event
+use Rattle.write_set.specs.declared.write_set.WriteSet.{WriteSet}
+use Rattle.write_set.specs.Reading.{decoded}
+use Rattle.cert_meaning.specs.declared.members.Standing.{Standing}
+use Rattle.cert_meaning.specs.State.{FoldState, is_open, fragments_of, last_seen_of}
+use Rattle.cert_meaning.specs.Verdict.{is_rollback, is_broken}
+use Rattle.cert_meaning.specs.Fold.{state_at}
+use Rattle.client_trx.specs.Live.{Live}
+use Rattle.client_trx.specs.declared.status.Status.TheVariants as status
+use Rattle.node_meaning.specs.Node.{ModelNode}
+use Rattle.node_meaning.specs.Facts.{SerialsRise, pending}
+
+-- the write sets that are pending
+abbrev pub pending_sets : List Event → ModelNode → List WriteSet
+pending_sets order n = filter_map decoded (pending order n)
+
+-- what their sender had seen does not fall along them, from the one number on
+abbrev pub SeenRises : ℕ → List WriteSet → Type 0
+SeenRises low [] = Unit {0}
+SeenRises low (w ∷ sets) = (low ≤ w.last_seen) × SeenRises w.last_seen sets
+
+-- a write set that is no rollback goes on where its transaction stands
+abbrev pub IsPlaced : FoldState → WriteSet → Type 0
+IsPlaced s w = is_rollback w ≡ false → is_broken s w ≡ false
+
+-- a write set of the transaction of an earlier one is its rollback
+abbrev pub OnlyEnds : WriteSet → List WriteSet → Type 0
+OnlyEnds w sets = AllByRecursion (λ (v : WriteSet). v.begin ≡ w.begin → is_rollback v ≡ true) sets
+
+-- behind each write set only the rollback of its transaction follows
+abbrev pub AllEnd : List WriteSet → Type 0
+AllEnd [] = Unit {0}
+AllEnd (w ∷ sets) = OnlyEnds w sets × AllEnd sets
+
+-- as many fragments of the transaction have passed as were sent, and none saw more than is committed
+pub record HasSent (s : FoldState) (committed : ℕ) (t : Live) : Type 0 where
+  pub opened : is_open s t.trx ≡ not (t.sent == 0)
+  pub count : length (fragments_of s t.trx) ≡ t.sent
+  pub seen : last_seen_of (fragments_of s t.trx) ≤ committed
+
+-- a live transaction began when its node had committed the view of its member; all that it sent has
+-- passed while it is Running
+pub record GoesOn (s : FoldState) (view committed : ℕ) (t : Live) : Type 0 where
+  pub synced : view ≤ committed
+  pub sent : t.status ≡ status.Running → HasSent s committed t
+
+-- the node's member is one, and what is pending follows what it had sent
+pub record Entered (s : FoldState) (member view begin serial committed : ℕ)
+    (live : FiniteMap nat_cmp Live) (sets : List WriteSet) : Type 0 where
+  pub standing : Standing
+  pub is_member : get s.members member ≡ Some standing
+  pub floor : s.floor ≤ standing.report
+  -- its report is not above what is committed, or above its view where that is greater
+  pub reported : standing.report ≤ max committed view
+  pub serials : SerialsRise standing.serial sets serial
+  pub seen : SeenRises standing.report sets
+  pub placed : AllByRecursion (IsPlaced s) sets
+  pub ends : AllEnd sets
+  pub each : (session : ℕ) (t : Live) → get live session ≡ Some t → GoesOn s view committed t
+  -- a transaction that has not begun is not open
+  pub unbegun : (trx : TrxId) → trx.member ≡ member → begin ≤ trx.begin
+      → get s.open_trx trx ≡ None
+
+abbrev pub OrderedFacts : List Event → ModelNode → Type 0
+OrderedFacts order n =
+    Entered (state_at order n.at.certified) n.at.member n.at.view n.at.begin n.at.serial
+    n.at.committed n.live (pending_sets order n)
+
+-- the node has not certified the view in which its member enters, which is the first event: it has
+-- nothing live and has sent nothing
+pub record IsEarly (order : List Event) (n : ModelNode) : Type 0 where
+  pub none : n.at.certified ≡ 0
+  pub first : n.at.view ≡ 1
+  pub positive : 0 < n.at.serial
+  pub idle : (session : ℕ) (t : Live) → get n.live session ≡ Some t → ⊥
+  pub nothing : pending order n ≡ []
+  pub version : ℕ
+  pub members : List ℕ
+  pub opens : slice_get order 0 ≡ Some (event.View version members)
+  pub has : list_any (λ k. k == n.at.member) members ≡ true
+
+-- before that, and since
+pub data Stage (order : List Event) (n : ModelNode) : Type 0 where
+  Early : IsEarly order n → Stage order n
+  Since : OrderedFacts order n → Stage order n
