@@ -73,20 +73,28 @@ OrderedFacts order n =
     Entered (state_at order n.at.certified) n.at.member n.at.view n.at.begin n.at.serial
     n.at.committed n.live (pending_sets order n)
 
+-- what an event of a course keeps of a member: a view has it, and no report is its own, as none is sent
+abbrev pub Keeps : ℕ → Event → Type 0
+Keeps member (event.Write sender body) = Unit {0}
+Keeps member (event.View version members) = list_any (λ k. k == member) members ≡ true
+Keeps member (event.Report sender number) = sender == member ≡ false
+
 -- the node has not certified the view in which its member enters, which is the first event: it has
 -- nothing live and has sent nothing
-pub record IsEarly (order : List Event) (n : ModelNode) : Type 0 where
-  pub none : n.at.certified ≡ 0
-  pub first : n.at.view ≡ 1
-  pub positive : 0 < n.at.serial
-  pub idle : (session : ℕ) (t : Live) → get n.live session ≡ Some t → ⊥
-  pub nothing : pending order n ≡ []
+pub record IsEarly (order : List Event) (member view certified serial : ℕ)
+    (live : FiniteMap nat_cmp Live) (bodies : List (List ℕ)) : Type 0 where
+  pub none : certified ≡ 0
+  pub first : view ≡ 1
+  pub positive : 0 < serial
+  pub idle : (session : ℕ) (t : Live) → get live session ≡ Some t → ⊥
+  pub nothing : bodies ≡ []
   pub version : ℕ
   pub members : List ℕ
   pub opens : slice_get order 0 ≡ Some (event.View version members)
-  pub has : list_any (λ k. k == n.at.member) members ≡ true
+  pub has : list_any (λ k. k == member) members ≡ true
 
 -- before that, and since
 pub data Stage (order : List Event) (n : ModelNode) : Type 0 where
-  Early : IsEarly order n → Stage order n
+  Early : IsEarly order n.at.member n.at.view n.at.certified n.at.serial n.live (pending order n)
+      → Stage order n
   Since : OrderedFacts order n → Stage order n

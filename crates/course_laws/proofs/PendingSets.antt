@@ -1,0 +1,63 @@
+-- The write sets that are pending: they are in line with the live transactions, and the next event is
+-- the first of them where it is the member's own.
+use Rattle.std.proofs.Common.{◌≡◌, ℕ, ◌+◌, ◌≤◌, false, cond, List, [], ◌∷◌, length, map, Some, None, refl, ap, sym, subst, ◌∙◌, arith, eq-eqb}
+use Rattle.std.specs.Prelude.{◌==◌, slice_get}
+use Rattle.std.specs.List.{filter_map, cons_option}
+use Rattle.order_event.specs.declared.event.Event.{Event}
+use Rattle.order_event.specs.declared.event.Event.TheVariants as event
+use Rattle.write_set.specs.declared.write_set.WriteSet.{WriteSet}
+use Rattle.write_set.specs.Reading.{decoded}
+use Rattle.node_meaning.specs.Node.{ModelNode}
+use Rattle.node_meaning.specs.Facts.{Facts, Lined, own_body, pending}
+use Rattle.node_laws.proofs.Moves.{with_certified}
+use Rattle.node_laws.proofs.Heads.{IsSplit, Split, split}
+use Rattle.node_laws.proofs.SentMoved.{certifies_pending}
+use Rattle.course_laws.specs.Ordered.{pending_sets}
+
+-- what bodies spell
+some_back : (bodies : List (List ℕ)) (sets : List WriteSet)
+    → map decoded bodies ≡ map Some sets → filter_map decoded bodies ≡ sets
+some_back [] [] is = refl
+some_back [] (w ∷ sets) is = cc
+some_back (b ∷ bodies) [] is = cc
+some_back (b ∷ bodies) (w ∷ sets) is =
+    let head : decoded b ≡ Some w = cc in
+    let tail : map decoded bodies ≡ map Some sets = cc in
+    ap (λ o. cons_option o (filter_map decoded bodies)) head
+    ∙ ap (λ rest. w ∷ rest) (some_back bodies sets tail)
+
+module _ (order : List Event) (n : ModelNode) (f : Facts order n) where
+  pub sets_lined : Lined order n.at.member n.at.begin n.at.serial n.at.committed n.at.certified
+      n.live (pending_sets order n)
+  sets_lined =
+      subst (Lined order n.at.member n.at.begin n.at.serial n.at.committed n.at.certified n.live)
+      (sym (some_back (pending order n) f.sent.sets f.sent.are)) f.sent.lined
+
+  pub within_order : n.at.certified ≤ length order
+  within_order = omega (arith, f.in_order.certified_fits, f.in_order.taken_fits)
+
+  -- the next event is the member's own write set
+  pub record OwnNext (body : List ℕ) : Type 0 where
+    pub set : WriteSet
+    pub read : decoded body ≡ Some set
+    pub sets_are : pending_sets order n ≡ set ∷ pending_sets order (with_certified n)
+
+  own_by : (body : List ℕ)
+      → IsSplit (decoded body) (map decoded (pending order (with_certified n))) f.sent.sets
+      → OwnNext body
+  own_by body (Split w rest sets_are read are) = record {
+    set = w;
+    read = read;
+    sets_are = some_back (pending order n) f.sent.sets f.sent.are ∙ sets_are
+        ∙ ap (λ xs. w ∷ xs) (sym (some_back (pending order (with_certified n)) rest are));
+  }
+
+  pub own_next : (body : List ℕ) → n.at.certified == n.at.taken ≡ false
+      → slice_get order n.at.certified ≡ Some (event.Write n.at.member body) → OwnNext body
+  own_next body more there =
+      let left = pending order (with_certified n) in
+      own_by body (split (decoded body) (map decoded left) f.sent.sets
+      (ap (map decoded) (sym (certifies_pending order n f.in_order f.sent more
+      (event.Write n.at.member body) there
+      ∙ ap (λ b. cons_option (cond b (Some body) None) left)
+      (eq-eqb n.at.member n.at.member refl))) ∙ f.sent.are))

@@ -1,0 +1,220 @@
+-- What a node sends goes on from what is pending; and what holds over the order so far holds when a
+-- transaction begins, changes or ends.
+use Rattle.std.proofs.Common.{◌≡◌, ℕ, ◌+◌, ◌≤◌, List, [], ◌∷◌, ◌++◌, length, Option, Some, refl, ap, sym, subst, ◌∙◌, arith, true≢false}
+use Rattle.std.specs.Prelude.{◌==◌, IsTrue, nat_le, not, is_some, unwrap_or}
+use Rattle.std.specs.List.{AllByRecursion, filter_map, cons_option}
+use Rattle.std.specs.Ordering.{nat_cmp}
+use Rattle.std.proofs.lemmas.Bool.Decides.{nat_tests}
+use Rattle.std.proofs.lemmas.List.Elements.{filter_map-append}
+use Rattle.finite_map.specs.FiniteMap.{FiniteMap, get, insert, remove, len}
+use Rattle.finite_map.proofs.Edits.{numbers, each_put, each_left}
+use Rattle.key_sets.specs.Keys.{LIMIT}
+use Rattle.order_event.specs.declared.event.Event.{Event}
+use Rattle.order_event.specs.declared.event.Message.TheVariants as message
+use Rattle.write_set.specs.declared.write_set.WriteSet.{WriteSet}
+use Rattle.write_set.specs.Reading.{decoded}
+use Rattle.write_set.specs.Spelling.{spelling}
+use Rattle.cert_meaning.specs.declared.items.Fragment.{Fragment}
+use Rattle.cert_meaning.specs.State.{FoldState, is_open, fragments_of, last_seen_of}
+use Rattle.cert_meaning.specs.Fold.{state_at}
+use Rattle.client_trx.specs.Live.{Live, with_status, commit_of, fragment_of, fragment_sent, rollback_of}
+use Rattle.client_trx.specs.declared.status.Status.{Status}
+use Rattle.client_trx.specs.declared.status.Status.TheVariants as status
+use Rattle.node_meaning.specs.Node.{ModelNode}
+use Rattle.node_meaning.specs.Facts.{Facts, ProgressInRange, StandsBy, Gathered, sets_of, pending, pending_in}
+use Rattle.node_meaning.proofs.ClientFacts.{first}
+use Rattle.node_meaning.proofs.RangeLaws.{commit-decoded, fragment-decoded, rollback-decoded}
+use Rattle.node_meaning.proofs.SentLaws.{pending-sent}
+use Rattle.node_laws.proofs.Moves.{IsRunning, Unlocked, Sent, Passed}
+use Rattle.node_laws.proofs.SetLists.{serials_push, all_push}
+use Rattle.course_laws.specs.Ordered.{pending_sets, IsPlaced, AllEnd, GoesOn, Entered, OrderedFacts}
+use Rattle.course_laws.proofs.PendingSets.{sets_lined}
+use Rattle.course_laws.proofs.Placing.{fragment_placed, commit_placed, ends_push, ends_rollback, seen_push}
+
+few_of : (k most : ℕ) → IsTrue (nat_le k most) → k ≤ most
+few_of k most is = grind (arith, nat_tests)
+
+module _ (order : List Event) (n : ModelNode) (f : Facts order n) (h : OrderedFacts order n) where
+  abbrev m : ℕ
+  m = n.at.member
+
+  abbrev p : ℕ
+  p = n.at.committed
+
+  abbrev s : FoldState
+  s = state_at order n.at.certified
+
+  abbrev sets : List WriteSet
+  sets = pending_sets order n
+
+  abbrev Goes : Live → Type 0
+  Goes t = GoesOn s n.at.view p t
+
+  -- ---- nothing is sent
+  over : (begin : ℕ) → n.at.begin ≤ begin → (now : FiniteMap nat_cmp Live)
+      → ((se : ℕ) (t : Live) → get now se ≡ Some t → Goes t)
+      → Entered s m n.at.view begin n.at.serial p now sets
+  over begin later now each = record {
+    standing = h.standing;
+    is_member = h.is_member;
+    floor = h.floor;
+    reported = h.reported;
+    serials = h.serials;
+    seen = h.seen;
+    placed = h.placed;
+    ends = h.ends;
+    each = each;
+    unbegun = λ trx member above. h.unbegun trx member (omega (arith, above, later));
+  }
+
+  put_goes : (se : ℕ) (u : Live) → Goes u → (q : ℕ) (t : Live)
+      → get (insert n.live se u) q ≡ Some t → Goes t
+  put_goes se u = each_put numbers n.live se (λ _ t. Goes t) h.each u
+
+  left_goes : (se : ℕ) (q : ℕ) (t : Live) → get (remove n.live se) q ≡ Some t → Goes t
+  left_goes se = each_left numbers n.live se (λ _ t. Goes t) h.each
+
+  pub put_entered : (se : ℕ) (u : Live) → Goes u
+      → Entered s m n.at.view n.at.begin n.at.serial p (insert n.live se u) sets
+  put_entered se u goes = over n.at.begin (omega arith) (insert n.live se u) (put_goes se u goes)
+
+  pub left_entered : (se : ℕ)
+      → Entered s m n.at.view n.at.begin n.at.serial p (remove n.live se) sets
+  left_entered se = over n.at.begin (omega arith) (remove n.live se) (left_goes se)
+
+  -- ---- a transaction begins
+  begun_goes : n.at.view ≤ p → (unit : ℕ) → Goes (first m n.at.begin unit)
+  begun_goes synced unit =
+      let none = h.unbegun (record { member = m; begin = n.at.begin }) refl (omega arith) in
+      record {
+        synced = synced;
+        sent = λ running. record {
+          opened = ap is_some none;
+          count = ap (λ (o : Option (List Fragment)). length (unwrap_or o [])) none;
+          seen = subst (λ (o : Option (List Fragment)). last_seen_of (unwrap_or o []) ≤ p)
+              (sym none) (omega arith);
+        };
+      }
+
+  pub begun_entered : n.at.view ≤ p → (se unit : ℕ)
+      → Entered s m n.at.view (n.at.begin + 1) n.at.serial p
+      (insert n.live se (first m n.at.begin unit)) sets
+  begun_entered synced se unit =
+      over (n.at.begin + 1) (omega arith) (insert n.live se (first m n.at.begin unit))
+      (put_goes se (first m n.at.begin unit) (begun_goes synced unit))
+
+  -- ---- one more write set is sent
+  pushed : (w : WriteSet) → w.last_seen ≡ p → w.serial ≡ n.at.serial → n.at.view ≤ p
+      → IsPlaced s w → AllEnd (sets ++ w ∷ []) → (now : FiniteMap nat_cmp Live)
+      → ((se : ℕ) (t : Live) → get now se ≡ Some t → Goes t)
+      → Entered s m n.at.view n.at.begin (n.at.serial + 1) p now (sets ++ w ∷ [])
+  pushed w seen number synced placed ends now each = record {
+    standing = h.standing;
+    is_member = h.is_member;
+    floor = h.floor;
+    reported = h.reported;
+    serials = serials_push h.standing.serial sets n.at.serial w number h.serials;
+    seen = seen_push m n.at.begin p h.standing.report sets w seen
+        (omega (arith, h.reported, synced)) (sets_lined order n f).ours h.seen;
+    placed = all_push (IsPlaced s) sets w h.placed placed;
+    ends = ends;
+    each = each;
+    unbegun = h.unbegun;
+  }
+
+  -- its bytes are behind what was pending
+  abbrev OverMore : ℕ → List ℕ → FiniteMap nat_cmp Live → Type 0
+  OverMore serial body now =
+      Entered s m n.at.view n.at.begin serial p now
+      (filter_map decoded (pending_in order m n.at.certified n.at.taken
+      (n.ordered ++ (n.outbox ++ message.Write body ∷ []))))
+
+  sent_more : (w : WriteSet) (now : FiniteMap nat_cmp Live) → decoded (spelling w) ≡ Some w
+      → Entered s m n.at.view n.at.begin (n.at.serial + 1) p now (sets ++ w ∷ [])
+      → OverMore (n.at.serial + 1) (spelling w) now
+  sent_more w now read =
+      subst (Entered s m n.at.view n.at.begin (n.at.serial + 1) p now)
+      (sym (ap (filter_map decoded) (pending-sent order m n.at.certified n.at.taken n.ordered
+      n.outbox (spelling w))
+      ∙ filter_map-append decoded (pending order n) (spelling w ∷ [])
+      ∙ ap (λ o. sets ++ cons_option o []) read))
+
+  -- ---- a live transaction
+  module _ (se : ℕ) (t : Live) (there : get n.live se ≡ Some t) where
+    -- it rests
+    pub resting : (u : Live) → (u.status ≡ status.Running → ⊥) → Goes u
+    resting u rests = record {
+      synced = (h.each se t there).synced;
+      sent = λ running. absurd (rests running);
+    }
+
+    -- it ends, and its rollback is sent
+    pub taken_back_entered : ProgressInRange n.at
+        → OverMore (n.at.serial + 1) (spelling (rollback_of t n.at.serial p)) (remove n.live se)
+    taken_back_entered range =
+        let w = rollback_of t n.at.serial p in
+        let was = (sets_lined order n f).each se t there in
+        sent_more w (remove n.live se)
+        (rollback-decoded n.at t range was.of_member was.begun (f.sendable se t there))
+        (pushed w refl refl (h.each se t there).synced (λ back. absurd (true≢false back))
+        (ends_rollback sets w refl h.ends) (remove n.live se) (left_goes se))
+
+  -- ---- one that is Running
+  module _ (se : ℕ) (t : Live) (here : IsRunning n se t) where
+    idle : (sets_of t.trx.begin sets ≡ []) × Gathered s t t.new_keys t.new_ops t.sent
+    idle = subst (StandsBy order p n.at.certified (sets_of t.trx.begin sets) t) here.running
+        ((sets_lined order n f).each se t here.there).stands
+
+    few : len t.keys ≤ LIMIT
+    few = few_of (len t.keys) LIMIT (f.sendable se t here.there).fit.few_keys
+
+    -- it goes on
+    pub again : (u : Live) → u.trx ≡ t.trx → u.sent ≡ t.sent → Goes u
+    again u trx sent =
+        let goes = h.each se t here.there in
+        let g = goes.sent here.running in record {
+          synced = goes.synced;
+          sent = λ _. record {
+            opened = ap (is_open s) trx ∙ g.opened ∙ ap (λ k. not (k == 0)) (sym sent);
+            count = ap (λ x. length (fragments_of s x)) trx ∙ g.count ∙ sym sent;
+            seen = subst (λ x. last_seen_of (fragments_of s x) ≤ p) (sym trx) g.seen;
+          };
+        }
+
+    -- its fragment is sent
+    pub fragment_entered : ProgressInRange n.at
+        → OverMore (n.at.serial + 1) (spelling (fragment_of t n.at.serial p))
+        (insert n.live se (fragment_sent t))
+    fragment_entered range =
+        let w = fragment_of t n.at.serial p in
+        let goes = h.each se t here.there in
+        let was = (sets_lined order n f).each se t here.there in
+        let now = insert n.live se (fragment_sent t) in
+        sent_more w now
+        (fragment-decoded n.at t range was.of_member was.begun (f.sendable se t here.there))
+        (pushed w refl refl goes.synced
+        (λ back. fragment_placed s t n.at.serial p (goes.sent here.running) idle.1 few)
+        (ends_push sets w idle.0 h.ends) now
+        (put_goes se (fragment_sent t) (resting se t here.there (fragment_sent t) (λ is. cc))))
+
+    -- its commit is sent
+    pub commit_entered : ProgressInRange n.at
+        → OverMore (n.at.serial + 1) (spelling (commit_of t n.at.serial p))
+        (insert n.live se (with_status t status.CommitSent))
+    commit_entered range =
+        let w = commit_of t n.at.serial p in
+        let goes = h.each se t here.there in
+        let was = (sets_lined order n f).each se t here.there in
+        let sent = with_status t status.CommitSent in
+        let now = insert n.live se (with_status t status.CommitSent) in
+        sent_more w now
+        (commit-decoded n.at t range was.of_member was.begun (f.sendable se t here.there))
+        (pushed w refl refl goes.synced
+        (λ back. commit_placed s t n.at.serial p (goes.sent here.running) idle.1 few)
+        (ends_push sets w idle.0 h.ends) now
+        (put_goes se sent (resting se t here.there sent (λ is. cc))))
+
+-- one that lost its locks is not Running
+pub not_running : (from to : Status) → Unlocked from to → to ≡ status.Running → ⊥
+not_running from to Sent is = cc
+not_running from to (Passed number) is = cc
