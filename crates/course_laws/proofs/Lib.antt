@@ -5,3 +5,7 @@ pub mod PendingSets
 pub mod Sending
 pub mod Certifying
 pub mod StageMoved
+pub mod Taking
+pub mod Following
+pub mod Ahead
+pub mod Growing

@@ -111,7 +111,7 @@ module _ (order : List Event) (n : ModelNode) (f : Facts order n) (h : OrderedFa
 module _ (order : List Event) (n : ModelNode) (f : Facts order n)
     (h : IsEarly order n.at.member n.at.view n.at.certified n.at.serial n.live (pending order n)) where
   -- the first event is the view of its member
-  first_event : (e : Event) → slice_get order n.at.certified ≡ Some e
+  pub first_event : (e : Event) → slice_get order n.at.certified ≡ Some e
       → e ≡ event.View h.version h.members
   first_event e there = same_Some e (event.View h.version h.members)
       (sym there ∙ ap (slice_get order) h.none ∙ h.opens)

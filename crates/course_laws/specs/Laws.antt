@@ -1,0 +1,79 @@
+-- the laws of a node of a cluster over the order so far
+use Rattle.std.specs.Prelude.{◌≡◌, ◌≤◌, ◌<◌, ◌^◌, ℕ, List, length, slice_get, Some, if◌then◌else◌}
+use Rattle.std.specs.List.{AllByRecursion}
+use Rattle.finite_map.specs.FiniteMap.{get}
+use Rattle.wsrep_base.specs.declared.ids.TrxId.{TrxId}
+use Rattle.wsrep_base.specs.declared.verdict.Verdict.{Verdict}
+use Rattle.wsrep_base.specs.declared.verdict.Verdict.TheVariants as verdict
+use Rattle.order_event.specs.declared.event.Event.{Event}
+use Rattle.order_event.specs.declared.event.Event.TheVariants as event
+use Rattle.order_event.specs.declared.step.Answer.TheVariants as answer
+use Rattle.order_event.specs.declared.step.Step.{Step}
+use Rattle.write_set.specs.declared.write_set.WriteSet.{WriteSet}
+use Rattle.write_set.specs.Reading.{decoded}
+use Rattle.cert_meaning.specs.Verdict as rules
+use Rattle.cert_meaning.specs.Fold.{state_at}
+use Rattle.client_trx.specs.Live.{Live, is_sent}
+use Rattle.node_meaning.specs.Node.{ModelNode}
+use Rattle.node_meaning.specs.Steps.{take_step}
+use Rattle.node_meaning.specs.Cluster.{start_cluster, run}
+use Rattle.node_meaning.specs.Facts.{sets_of, HasFailed}
+use Rattle.node_laws.proofs.InStep.{IsInStep}
+use Rattle.course_laws.specs.Ordered.{pending_sets}
+use Rattle.course_laws.specs.Courses.{Course, Happens, StepFits, Fits, course, start_course}
+
+-- it passes, or another came first
+abbrev pub IsByConflict : Verdict → Type 0
+IsByConflict verdict.Pass = Unit {0}
+IsByConflict (verdict.Conflict commit) = Unit {0}
+IsByConflict (verdict.Held fragment) = Unit {0}
+IsByConflict other = ⊥
+
+-- each write set of the member in the order passes, or another came first
+abbrev pub OwnAreDecided : List Event → ℕ → Type 0
+OwnAreDecided order member =
+    (before : ℕ) (body : List ℕ) → slice_get order before ≡ Some (event.Write member body)
+    → (w : WriteSet) × (decoded body ≡ Some w)
+    × IsByConflict (rules.verdict (state_at order before) member w)
+
+-- no take is split
+abbrev pub NoSplit : List Event → ModelNode → Type 0
+NoSplit order n = (take_step order n).0 ≡ answer.Split → ⊥
+
+-- of a live transaction one write set is pending where it waits for a verdict, and else none
+abbrev pub SentStandOnce : List Event → ModelNode → Type 0
+SentStandOnce order n =
+    (session : ℕ) (t : Live) → get n.live session ≡ Some t
+    → length (sets_of t.trx.begin (pending_sets order n)) ≡ (if is_sent t.status then 1 else 0)
+
+-- no write set of the node failed by a verdict that a cluster never gives
+abbrev pub NoneFailed : List Event → ModelNode → Type 0
+NoneFailed order n =
+    (trx : TrxId) → trx.member ≡ n.at.member → HasFailed order n.at.certified trx → ⊥
+
+pub record NodeLaws (order : List Event) (n : ModelNode) : Type 0 where
+  pub decided : OwnAreDecided order n.at.member
+  pub whole : NoSplit order n
+  -- its messages behind what it took are those that it had ordered
+  pub in_step : IsInStep order n
+  pub once : SentStandOnce order n
+  pub none_failed : NoneFailed order n
+
+-- they hold at the end of every course from a start, while numbers are in range
+abbrev pub CoursesAreLawful : Type 0
+CoursesAreLawful =
+    (nodes member : ℕ) (id : List ℕ) (happens : List Happens)
+    → 1 ≤ member → member ≤ nodes → member < 2 ^ 32
+    → AllByRecursion (Fits member) happens → length happens < 2 ^ 63
+    → length (course (start_course nodes id member) happens).order ≤ 2 ^ 63
+    → NodeLaws (course (start_course nodes id member) happens).order
+    (course (start_course nodes id member) happens).node
+
+-- and so of every node of every run of a cluster
+abbrev pub RunsAreLawful : Type 0
+RunsAreLawful =
+    (nodes : ℕ) (id : List ℕ) (steps : List Step)
+    → nodes < 2 ^ 32 → length steps < 2 ^ 63
+    → AllByRecursion (λ (step : Step). StepFits step.act) steps → (i : ℕ) (n : ModelNode)
+    → slice_get (run steps (start_cluster nodes id)).1.nodes i ≡ Some n
+    → NodeLaws (run steps (start_cluster nodes id)).1.order n
