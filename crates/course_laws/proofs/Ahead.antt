@@ -92,7 +92,7 @@ by_conflict verdict.Broken d = d
 by_conflict (verdict.Conflict v) d = tt
 by_conflict (verdict.Held v) d = tt
 
-write_not_view : (member version : ℕ) (body members : List ℕ)
+pub write_not_view : (member version : ℕ) (body members : List ℕ)
     → event.Write member body ≡ event.View version members → ⊥
 write_not_view member version body members is = cc
 

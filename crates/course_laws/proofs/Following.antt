@@ -47,7 +47,7 @@ phase_moved order given n k m (Tells s) = refl
 phase_moved order given n k m _ = refl
 
 -- only write sets are sent
-behind_all : (front back : List Message) → AllByRecursion IsWriteSet (front ++ back)
+pub behind_all : (front back : List Message) → AllByRecursion IsWriteSet (front ++ back)
     → AllByRecursion IsWriteSet back
 behind_all [] back all = all
 behind_all (m ∷ front) back all = behind_all front back all.1

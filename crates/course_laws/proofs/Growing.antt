@@ -27,7 +27,7 @@ use Rattle.course_laws.specs.Courses.{IsOfOthers}
 use Rattle.course_laws.specs.Laws.{IsByConflict, OwnAreDecided}
 use Rattle.course_laws.proofs.PendingSets.{within_order}
 use Rattle.course_laws.proofs.StageMoved.{stage_moved}
-use Rattle.course_laws.proofs.Following.{IsWriteSet, Follows, AllKeep}
+use Rattle.course_laws.proofs.Following.{IsWriteSet, behind_all, Follows, AllKeep}
 use Rattle.course_laws.proofs.Ahead.{DecidedAt, decided_ahead}
 
 -- ---- lists
@@ -148,11 +148,6 @@ own_all_keep order member front back writes keeps =
     both_at (Keeps member) order (map (event_of member) front) keeps
     (own_keep member front back writes)
 
-behind_all : (front back : List Message) → AllByRecursion IsWriteSet (front ++ back)
-    → AllByRecursion IsWriteSet back
-behind_all [] back all = all
-behind_all (m ∷ front) back all = behind_all front back all.1
-
 joint_not : Joint ≡ Pays → ⊥
 joint_not is = cc
 
@@ -181,7 +176,8 @@ own_follows order member n front back is keeps h =
     }
 
 -- ---- the write sets of the member
-module _ (order more : List Event) (member : ℕ) (n : ModelNode) (before_is : OwnAreDecided order member)
+module _ (order more : List Event) (member : ℕ) (n : ModelNode)
+    (before_is : OwnAreDecided order member)
     (inside : n.at.certified ≤ length order) (keeps : AllKeep (order ++ more) member)
     (h : Follows (order ++ more) member n) where
   decided_by : (before : ℕ) (body : List ℕ) (b : Bool) → nat_lt before n.at.certified ≡ b

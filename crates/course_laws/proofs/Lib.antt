@@ -9,3 +9,4 @@ pub mod Taking
 pub mod Following
 pub mod Ahead
 pub mod Growing
+pub mod CourseLaws
