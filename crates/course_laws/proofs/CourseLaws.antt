@@ -35,8 +35,9 @@ use Rattle.node_laws.proofs.CertifyMoves.{certify_moves}
 use Rattle.node_laws.proofs.UnitMoves.{CanTakeBack, start_moves, finish_moves}
 use Rattle.node_laws.proofs.AdvanceMoves.{CanDrain, advance_moves, drained_moves}
 use Rattle.node_laws.proofs.Counts.{Grows, reach_grows}
+use Rattle.node_laws.proofs.ClusterLaws.{ActFits}
 use Rattle.course_laws.specs.Ordered.{pending_sets, Keeps, Stage, Early, Since}
-use Rattle.course_laws.specs.Courses.{Course, Happens, Others, Does, first_event, does, next, course, IsOfOthers, StepFits, Fits, start_course}
+use Rattle.course_laws.specs.Courses.{Course, Happens, Others, Does, first_event, does, next, course, IsOfOthers, Fits, start_course}
 use Rattle.course_laws.specs.Laws.{IsByConflict, OwnAreDecided, SentStandOnce, NoneFailed, NodeLaws, CoursesAreLawful}
 use Rattle.course_laws.proofs.PendingSets.{sets_lined, within_order}
 use Rattle.course_laws.proofs.Taking.{no_split}
@@ -106,7 +107,7 @@ module _ (member most : ℕ) (small : member < 2 ^ 32) (few : most ≤ 2 ^ 63) w
       begin = omega (arith, h.begin);
     }
 
-    step_kept : (a : Act) → StepFits a → Kept member (most + 1) order (node_step order n a).1
+    step_kept : (a : Act) → ActFits a → Kept member (most + 1) order (node_step order n a).1
     step_kept (act.Client session call) fits =
         let can : CanCall n call =
         record { names = fits.0; values = fits.1; range = in_range } in
@@ -196,7 +197,7 @@ module _ (member most : ℕ) (small : member < 2 ^ 32) (few : most ≤ 2 ^ 63) w
           begin = omega (arith, h.begin, grows.begin);
         }
 
-  does_kept : (c : Course) → Kept member most c.order c.node → (a : Act) → StepFits a
+  does_kept : (c : Course) → Kept member most c.order c.node → (a : Act) → ActFits a
       → length (does c a).order ≤ 2 ^ 63
       → Kept member (most + 1) (does c a).order (does c a).node
   does_kept c h act.Order fits short = first_kept c.order c.node h c.node.outbox refl

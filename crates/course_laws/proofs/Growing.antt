@@ -31,7 +31,7 @@ use Rattle.course_laws.proofs.Following.{IsWriteSet, behind_all, Follows, AllKee
 use Rattle.course_laws.proofs.Ahead.{DecidedAt, decided_ahead}
 
 -- ---- lists
-front_get : {A : Type 0} (xs ys : List A) (k : ℕ) → k < length xs
+pub front_get : {A : Type 0} (xs ys : List A) (k : ℕ) → k < length xs
     → slice_get (xs ++ ys) k ≡ slice_get xs k
 front_get [] ys k below = absurd (omega (arith, below))
 front_get (x ∷ xs) ys zero below = refl

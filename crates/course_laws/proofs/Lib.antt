@@ -10,3 +10,4 @@ pub mod Following
 pub mod Ahead
 pub mod Growing
 pub mod CourseLaws
+pub mod Runs

@@ -1,7 +1,6 @@
 -- the course of one node over an order that grows: what it does, and what others order
-use Rattle.std.specs.Prelude.{◌≡◌, ℕ, ◌==◌, true, false, List, [], ◌∷◌, ◌++◌, map, IsTrue}
+use Rattle.std.specs.Prelude.{◌≡◌, ℕ, ◌==◌, true, false, List, [], ◌∷◌, ◌++◌, map}
 use Rattle.std.specs.List.{AllByRecursion, list_any}
-use Rattle.row_model.specs.Names.{call_fits}
 use Rattle.order_event.specs.declared.event.Event.{Event}
 use Rattle.order_event.specs.declared.event.Event.TheVariants as event
 use Rattle.order_event.specs.declared.event.Message.{Message}
@@ -10,7 +9,7 @@ use Rattle.order_event.specs.declared.step.Act.TheVariants as act
 use Rattle.group_order.specs.Order.{event_of, start_order}
 use Rattle.node_meaning.specs.Node.{ModelNode, start_node}
 use Rattle.node_meaning.specs.Steps.{sent_out, node_step, drained}
-use Rattle.node_meaning.specs.Facts.{CallInRange}
+use Rattle.node_laws.proofs.ClusterLaws.{ActFits}
 
 -- the order so far, and the node
 pub record Course : Type 0 where
@@ -57,14 +56,10 @@ IsOfOthers member (event.Write sender body) = sender == member ≡ false
 IsOfOthers member (event.View version members) = list_any (λ k. k == member) members ≡ true
 IsOfOthers member (event.Report sender number) = sender == member ≡ false
 
--- a call has names in their form and values in range
-abbrev pub StepFits : Act → Type 0
-StepFits (act.Client session call) = IsTrue (call_fits call) × CallInRange call
-StepFits other = Unit {0}
-
+-- a call of the node has names in their form and values in range
 abbrev pub Fits : ℕ → Happens → Type 0
 Fits member (Others events) = AllByRecursion (IsOfOthers member) events
-Fits member (Does a) = StepFits a
+Fits member (Does a) = ActFits a
 
 -- node `member` of so many at its start
 abbrev pub start_course : ℕ → List ℕ → ℕ → Course

@@ -19,8 +19,9 @@ use Rattle.node_meaning.specs.Steps.{take_step}
 use Rattle.node_meaning.specs.Cluster.{start_cluster, run}
 use Rattle.node_meaning.specs.Facts.{sets_of, HasFailed}
 use Rattle.node_laws.proofs.InStep.{IsInStep}
+use Rattle.node_laws.proofs.ClusterLaws.{ActFits}
 use Rattle.course_laws.specs.Ordered.{pending_sets}
-use Rattle.course_laws.specs.Courses.{Course, Happens, StepFits, Fits, course, start_course}
+use Rattle.course_laws.specs.Courses.{Course, Happens, Fits, course, start_course}
 
 -- it passes, or another came first
 abbrev pub IsByConflict : Verdict → Type 0
@@ -74,6 +75,6 @@ abbrev pub RunsAreLawful : Type 0
 RunsAreLawful =
     (nodes : ℕ) (id : List ℕ) (steps : List Step)
     → nodes < 2 ^ 32 → length steps < 2 ^ 63
-    → AllByRecursion (λ (step : Step). StepFits step.act) steps → (i : ℕ) (n : ModelNode)
+    → AllByRecursion (λ (step : Step). ActFits step.act) steps → (i : ℕ) (n : ModelNode)
     → slice_get (run steps (start_cluster nodes id)).1.nodes i ≡ Some n
     → NodeLaws (run steps (start_cluster nodes id)).1.order n
