@@ -1,10 +1,9 @@
 -- All write sets of a node's member in the order so far are decided, whether it took them or not: all
 -- is taken and certified ahead, in thought alone.
-use Rattle.std.proofs.Common.{◌≡◌, ℕ, zero, suc, ◌+◌, ◌-◌, ◌≤◌, ◌<◌, Bool, true, false, cond, List, length, Option, Some, None, refl, ap, sym, subst, ◌∙◌, arith}
+use Rattle.std.proofs.Common.{◌≡◌, ℕ, zero, suc, ◌+◌, ◌-◌, ◌≤◌, Bool, true, false, cond, List, length, Option, Some, None, refl, ap, sym, subst, ◌∙◌, arith}
 use Rattle.std.specs.Prelude.{◌==◌, slice_get}
-use Rattle.std.proofs.lemmas.Option.{same_Some, slice_get_within}
+use Rattle.std.proofs.lemmas.Option.{slice_get_within}
 use Rattle.wsrep_base.specs.declared.verdict.Verdict.{Verdict}
-use Rattle.wsrep_base.specs.declared.verdict.Verdict.TheVariants as verdict
 use Rattle.order_event.specs.declared.event.Event.{Event}
 use Rattle.order_event.specs.declared.event.Event.TheVariants as event
 use Rattle.order_event.specs.declared.step.Answer.{Answer}
@@ -14,7 +13,6 @@ use Rattle.write_set.specs.Reading.{decoded}
 use Rattle.cert_meaning.specs.Verdict as rules
 use Rattle.cert_meaning.specs.Fold.{state_at}
 use Rattle.cert_meaning.proofs.FoldLaws.{some_there}
-use Rattle.cert_meaning.proofs.VerdictLaws.{IsDecided}
 use Rattle.client_trx.specs.Live.{Live, is_sent, judged_by}
 use Rattle.client_trx.specs.declared.status.Outcome.{Outcome}
 use Rattle.client_trx.specs.declared.status.Outcome.TheVariants.{Lives, Ends}
@@ -80,18 +78,6 @@ certified_at order n e more there =
     ∙ ap (λ o. (certify_event order n o).1.at) there
     ∙ at_event (with_certified n) (n.at.certified + 1) _ e
 
--- ---- the two words for a verdict of a cluster
-pub by_conflict : (v : Verdict) → IsDecided v → IsByConflict v
-by_conflict verdict.Pass d = tt
-by_conflict verdict.Malformed d = d
-by_conflict verdict.Stranger d = d
-by_conflict verdict.Repeat d = d
-by_conflict verdict.Future d = d
-by_conflict verdict.Stale d = d
-by_conflict verdict.Broken d = d
-by_conflict (verdict.Conflict v) d = tt
-by_conflict (verdict.Held v) d = tt
-
 pub write_not_view : (member version : ℕ) (body members : List ℕ)
     → event.Write member body ≡ event.View version members → ⊥
 write_not_view member version body members is = cc
@@ -135,8 +121,7 @@ module _ (order : List Event) (member : ℕ) (keeps : AllKeep order member) wher
       let own = own_next order n h.facts body more there in (
         own.set,
         own.read,
-        by_conflict (rules.verdict (state_at order n.at.certified) n.at.member own.set)
-            (own_decided order n h.facts o more body there own.set own.read),
+        own_decided order n h.facts o more body there own.set own.read,
       )
 
   decided_from : (k : ℕ) (n : ModelNode) (before : ℕ) (body : List ℕ)

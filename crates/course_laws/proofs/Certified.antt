@@ -1,6 +1,6 @@
 -- What holds over the order so far holds when one more event is certified: an event of another member,
 -- a view that has the member, or the member's own oldest pending write set, which is decided.
-use Rattle.std.proofs.Common.{◌≡◌, ℕ, ◌+◌, ◌≤◌, ◌<◌, Bool, true, false, cond, List, [], ◌∷◌, ◌++◌, length, Option, Some, None, refl, ap, sym, subst, ◌∙◌, arith, eq-eqb, true≢false}
+use Rattle.std.proofs.Common.{◌≡◌, ℕ, ◌+◌, ◌≤◌, Bool, true, false, cond, List, [], ◌∷◌, ◌++◌, length, Option, Some, None, refl, ap, sym, subst, ◌∙◌, arith, eq-eqb, true≢false}
 use Rattle.std.specs.Prelude.{◌==◌, ◌||◌, not, nat_lt, is_some, unwrap_or}
 use Rattle.std.specs.List.{AllByRecursion}
 use Rattle.std.specs.Ordering.{nat_cmp}
@@ -12,7 +12,7 @@ use Rattle.wsrep_base.specs.declared.verdict.Verdict.TheVariants as verdict
 use Rattle.wsrep_base.specs.declared.verdict.Judged.TheVariants as became
 use Rattle.key_sets.specs.Keys.{LIMIT}
 use Rattle.order_event.specs.declared.event.Event.{Event}
-use Rattle.order_event.specs.declared.event.Event.TheVariants.{Write, View, Report}
+use Rattle.order_event.specs.declared.event.Event.TheVariants.{Write}
 use Rattle.write_set.specs.declared.write_set.WriteSet.{WriteSet}
 use Rattle.write_set.specs.Reading.{decoded}
 use Rattle.cert_meaning.specs.declared.items.Fragment.{Fragment}
@@ -21,12 +21,12 @@ use Rattle.cert_meaning.specs.State.{FoldState, fragments_of, last_seen_of, whol
 use Rattle.cert_meaning.specs.Verdict as rules
 use Rattle.cert_meaning.specs.Verdict.{trx_of, is_rollback, is_broken, is_start}
 use Rattle.cert_meaning.specs.Fold.{Adds, effect_of, judged_as, judged_write, after, fragment_by}
-use Rattle.cert_meaning.proofs.VerdictLaws.{IsDecided}
 use Rattle.client_trx.specs.Live.{Live}
 use Rattle.node_meaning.specs.Facts.{IsOurs, IsFragmentOf}
 use Rattle.node_laws.proofs.SetLists.{unequal}
 use Rattle.node_laws.proofs.Fates.{grown}
 use Rattle.node_laws.proofs.Heads.{count}
+use Rattle.course_laws.specs.Laws.{IsByConflict}
 use Rattle.course_laws.specs.Ordered.{IsPlaced, OnlyEnds, HasSent, GoesOn, Entered}
 use Rattle.course_laws.proofs.Members.{IsApart, kept_open, member_own, floor_below}
 use Rattle.course_laws.proofs.Placing.{next_decided, seen_lower}
@@ -132,7 +132,7 @@ module _ (s : FoldState) (m v b serial p : ℕ) (live : FiniteMap nat_cmp Live) 
   next = after s (Write m body)
 
   -- it is decided
-  pub head_decided : IsDecided (rules.verdict s m w)
+  pub head_decided : IsByConflict (rules.verdict s m w)
   head_decided =
       let seen = ours.0.seen in
       next_decided s m w h.standing (record {

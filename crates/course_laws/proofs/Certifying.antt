@@ -1,14 +1,13 @@
 -- Certifying the next event keeps what holds over the order so far, whatever it does to the
 -- transaction that sent it; the verdict on the node's own is one that a cluster gives.
-use Rattle.std.proofs.Common.{◌≡◌, ℕ, ◌+◌, ◌≤◌, ◌<◌, Bool, true, false, cond, List, [], ◌∷◌, length, map, Option, Some, None, refl, ap, sym, subst, ◌∙◌, arith, eq-eqb, true≢false}
+use Rattle.std.proofs.Common.{◌≡◌, ℕ, ◌+◌, ◌≤◌, ◌<◌, Bool, true, false, cond, List, [], ◌∷◌, length, Option, Some, None, refl, ap, sym, subst, ◌∙◌, arith, eq-eqb, true≢false}
 use Rattle.std.specs.Prelude.{◌==◌, slice_get}
-use Rattle.std.specs.List.{AllByRecursion, filter_map, cons_option, list_any}
+use Rattle.std.specs.List.{filter_map, cons_option, list_any}
 use Rattle.std.specs.Ordering.{nat_cmp, eq_by_cmp}
 use Rattle.std.proofs.lemmas.Option.{same_Some}
 use Rattle.finite_map.specs.FiniteMap.{FiniteMap, get, insert, remove}
 use Rattle.finite_map.proofs.Edits.{numbers, Inserted, AtKey, Elsewhere, inserted, left}
 use Rattle.wsrep_base.specs.declared.ids.TrxId.{TrxId}
-use Rattle.wsrep_base.specs.declared.verdict.Verdict.{Verdict}
 use Rattle.wsrep_base.specs.declared.verdict.Verdict.TheVariants as verdict
 use Rattle.order_event.specs.declared.event.Event.{Event}
 use Rattle.order_event.specs.declared.event.Event.TheVariants as event
@@ -19,35 +18,24 @@ use Rattle.cert_meaning.specs.Verdict as rules
 use Rattle.cert_meaning.specs.Verdict.{trx_of}
 use Rattle.cert_meaning.specs.Fold.{after, state_at}
 use Rattle.cert_meaning.proofs.FoldLaws.{number-at, state_at-next}
-use Rattle.cert_meaning.proofs.VerdictLaws.{IsDecided}
 use Rattle.client_trx.specs.Live.{Live, with_status, passed_status, is_sent}
 use Rattle.client_trx.specs.declared.status.Status.{Status}
 use Rattle.client_trx.specs.declared.status.Status.TheVariants as status
 use Rattle.node_meaning.specs.Node.{ModelNode}
 use Rattle.node_meaning.specs.Steps.{session_of}
-use Rattle.node_meaning.specs.Facts.{Facts, IsUndecided, Lined, IsOurs, IsFragmentOf, HasFailed, Alone, One, Lost, StandsBy, sets_of, own_body, pending}
+use Rattle.node_meaning.specs.Facts.{Facts, Lined, IsFragmentOf, HasFailed, Alone, One, Lost, StandsBy, sets_of, own_body, pending}
 use Rattle.node_meaning.proofs.EntryLaws.{entry_found, entry_missed, less_from}
 use Rattle.node_laws.proofs.Moves.{IsJudged, verdict_next, MayCertify, with_certified}
 use Rattle.node_laws.proofs.SetLists.{equal, unequal, of-first}
 use Rattle.node_laws.proofs.Lining.{elsewhere}
 use Rattle.node_laws.proofs.Heads.{head_waits}
 use Rattle.node_laws.proofs.SentMoved.{certifies_pending}
+use Rattle.course_laws.specs.Laws.{IsByConflict}
 use Rattle.course_laws.specs.Ordered.{pending_sets, HasSent, GoesOn, Entered, OrderedFacts, Keeps}
 use Rattle.course_laws.proofs.Members.{IsApart, member_foreign, member_view, member_report_foreign}
+use Rattle.course_laws.proofs.Placing.{conflict_not}
 use Rattle.course_laws.proofs.Certified.{beside_entered, head_decided, other_goes, fragment_sent_passed, head_entered}
 use Rattle.course_laws.proofs.PendingSets.{sets_lined, within_order, OwnNext, own_next}
-
--- a verdict is not both
-pub decided_not : (v : Verdict) → IsDecided v → IsUndecided v → ⊥
-decided_not verdict.Pass d u = u
-decided_not verdict.Malformed d u = d
-decided_not verdict.Stranger d u = d
-decided_not verdict.Repeat d u = d
-decided_not verdict.Future d u = d
-decided_not verdict.Stale d u = d
-decided_not verdict.Broken d u = d
-decided_not (verdict.Conflict v) d u = u
-decided_not (verdict.Held v) d u = u
 
 -- the one that stands alone is the first
 first_alone : (P : WriteSet → Type 0) (failed : Type 0) (mine left : List WriteSet) (w : WriteSet)
@@ -116,9 +104,9 @@ module _ (order : List Event) (n : ModelNode) (f : Facts order n) (h : OrderedFa
     ahead = subst (Entered s m n.at.view n.at.begin n.at.serial p n.live) own.sets_are h
 
     -- it is decided
-    pub own_decided : (x : WriteSet) → decoded body ≡ Some x → IsDecided (verdict_next order n x)
+    pub own_decided : (x : WriteSet) → decoded body ≡ Some x → IsByConflict (verdict_next order n x)
     own_decided x is =
-        subst (λ y. IsDecided (verdict_next order n y)) (same_Some w x (sym own.read ∙ is))
+        subst (λ y. IsByConflict (verdict_next order n y)) (same_Some w x (sym own.read ∙ is))
         (head_decided s m n.at.view n.at.begin n.at.serial p n.live w left_sets ahead l.ours body
         own.read behind)
 
@@ -216,7 +204,7 @@ module _ (order : List Event) (n : ModelNode) (f : Facts order n) (h : OrderedFa
       none_by (Some e) found q u at =
           let entry = entry_found n.live (λ e. e.1.trx.begin == w.begin) e found in
           let begin : e.1.trx.begin ≡ w.begin = equal e.1.trx.begin w.begin entry.passes in
-          absurd (decided_not (verdict_next order n w) (own_decided w own.read)
+          absurd (conflict_not (verdict_next order n w) (own_decided w own.read)
           (may.undecided e.0 e.1 body w (record {
             more = more;
             next = there;

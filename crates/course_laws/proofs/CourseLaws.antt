@@ -1,14 +1,12 @@
 -- Along every course of a node from its start, what holds of the node over the order so far is kept,
 -- and so are the laws.
-use Rattle.std.proofs.Common.{◌≡◌, ℕ, zero, suc, ◌+◌, ◌≤◌, ◌<◌, ◌^◌, Bool, true, false, cond, List, [], ◌∷◌, ◌++◌, length, Option, Some, None, refl, ap, sym, subst, ◌∙◌, arith, append-nil, length-append, eq-eqb, true≢false}
-use Rattle.std.specs.Prelude.{◌==◌, ◌||◌, map, slice_get}
+use Rattle.std.proofs.Common.{◌≡◌, ℕ, zero, suc, ◌+◌, ◌≤◌, ◌<◌, ◌^◌, Bool, true, false, cond, List, [], ◌∷◌, ◌++◌, length, Some, refl, ap, sym, subst, ◌∙◌, arith, append-nil, length-append, eq-eqb, true≢false}
+use Rattle.std.specs.Prelude.{◌==◌, ◌||◌, map}
 use Rattle.std.specs.List.{AllByRecursion, list_any}
 use Rattle.std.specs.Ordering.{nat_cmp}
 use Rattle.std.proofs.lemmas.Option.{same_Some}
-use Rattle.finite_map.specs.FiniteMap.{get, len, get-empty, len-empty}
+use Rattle.finite_map.specs.FiniteMap.{len, get-empty, len-empty}
 use Rattle.wsrep_base.specs.declared.ids.TrxId.{TrxId}
-use Rattle.wsrep_base.specs.declared.verdict.Verdict.{Verdict}
-use Rattle.wsrep_base.specs.declared.verdict.Verdict.TheVariants as verdict
 use Rattle.order_event.specs.declared.event.Event.{Event}
 use Rattle.order_event.specs.declared.event.Event.TheVariants as event
 use Rattle.order_event.specs.declared.event.Message.{Message}
@@ -16,7 +14,6 @@ use Rattle.order_event.specs.declared.step.Act.{Act}
 use Rattle.order_event.specs.declared.step.Act.TheVariants as act
 use Rattle.group_order.specs.Order.{event_of, start_order, up_to}
 use Rattle.write_set.specs.declared.write_set.WriteSet.{WriteSet}
-use Rattle.write_set.specs.Reading.{decoded}
 use Rattle.cert_meaning.specs.Verdict as rules
 use Rattle.cert_meaning.specs.Fold.{state_at}
 use Rattle.client_trx.specs.Live.{Live, is_sent}
@@ -36,9 +33,10 @@ use Rattle.node_laws.proofs.UnitMoves.{CanTakeBack, start_moves, finish_moves}
 use Rattle.node_laws.proofs.AdvanceMoves.{CanDrain, advance_moves, drained_moves}
 use Rattle.node_laws.proofs.Counts.{Grows, reach_grows}
 use Rattle.node_laws.proofs.ClusterLaws.{ActFits}
-use Rattle.course_laws.specs.Ordered.{pending_sets, Keeps, Stage, Early, Since}
-use Rattle.course_laws.specs.Courses.{Course, Happens, Others, Does, first_event, does, next, course, IsOfOthers, Fits, start_course}
-use Rattle.course_laws.specs.Laws.{IsByConflict, OwnAreDecided, SentStandOnce, NoneFailed, NodeLaws, CoursesAreLawful}
+use Rattle.course_laws.specs.Ordered.{pending_sets, Keeps, Early}
+use Rattle.course_laws.specs.Courses.{Course, Happens, Others, Does, first_event, does, next, course, IsOfOthers, Fits, AllFit, start_course}
+use Rattle.course_laws.specs.Laws.{IsByConflict, OwnAreDecided, NoneFailed, NodeLaws, CoursesAreLawful}
+use Rattle.course_laws.proofs.Placing.{conflict_not}
 use Rattle.course_laws.proofs.PendingSets.{sets_lined, within_order}
 use Rattle.course_laws.proofs.Taking.{no_split}
 use Rattle.course_laws.proofs.Ahead.{write_not_view}
@@ -219,10 +217,12 @@ module _ (member most : ℕ) (small : member < 2 ^ 32) (few : most ≤ 2 ^ 63) w
   does_kept c h (act.Transfer donor) fits short =
       step_kept c.order c.node h short (act.Transfer donor) fits
 
-  next_kept : (c : Course) → Kept member most c.order c.node → (x : Happens) → Fits member x
+  next_kept : (c : Course) → Kept member most c.order c.node → (x : Happens) → Fits c x
       → length (next c x).order ≤ 2 ^ 63
       → Kept member (most + 1) (next c x).order (next c x).node
-  next_kept c h (Others events) fits short = others_kept c.order c.node h events fits
+  next_kept c h (Others events) fits short =
+      others_kept c.order c.node h events
+      (subst (λ k. AllByRecursion (IsOfOthers k) events) h.follows.home fits)
   next_kept c h (Does a) fits short = does_kept c h a fits short
 
 -- ---- the order never gets shorter
@@ -246,7 +246,7 @@ course_longer c (x ∷ happens) =
 
 -- ---- all that happens
 pub course_kept : (member most : ℕ) → member < 2 ^ 32 → (c : Course) (happens : List Happens)
-    → most + length happens ≤ 2 ^ 63 → AllByRecursion (Fits member) happens
+    → most + length happens ≤ 2 ^ 63 → AllFit c happens
     → length (course c happens).order ≤ 2 ^ 63 → Kept member most c.order c.node
     → Kept member (most + length happens) (course c happens).order (course c happens).node
 course_kept member most small c [] few fits short h =
@@ -339,17 +339,6 @@ module _ (nodes member : ℕ) (id : List ℕ)
   }
 
 -- ---- the laws
-conflict_not : (v : Verdict) → IsByConflict v → IsUndecided v → ⊥
-conflict_not verdict.Pass d u = u
-conflict_not verdict.Malformed d u = d
-conflict_not verdict.Stranger d u = d
-conflict_not verdict.Repeat d u = d
-conflict_not verdict.Future d u = d
-conflict_not verdict.Stale d u = d
-conflict_not verdict.Broken d u = d
-conflict_not (verdict.Conflict v) d u = u
-conflict_not (verdict.Held v) d u = u
-
 module _ (member most : ℕ) (order : List Event) (n : ModelNode) (h : Kept member most order n) where
   none_failed : NoneFailed order n
   none_failed trx own failed =

@@ -1,5 +1,5 @@
 -- Rows of moves keep what holds of a node over the order so far, and a client call is such a row.
-use Rattle.std.proofs.Common.{◌≡◌, ℕ, zero, suc, ◌+◌, ◌≤◌, Bool, true, false, List, [], ◌∷◌, ◌++◌, Option, Some, None, refl, ap, sym, subst, ◌∙◌, arith, ltb-true, ltb-false, true≢false}
+use Rattle.std.proofs.Common.{◌≡◌, ℕ, ◌≤◌, Bool, true, false, List, [], ◌∷◌, ◌++◌, Option, Some, None, refl, sym, subst, ◌∙◌, arith, ltb-false, true≢false}
 use Rattle.std.specs.Prelude.{◌||◌, slice_get, nat_lt}
 use Rattle.std.specs.List.{AllByRecursion}
 use Rattle.finite_map.specs.FiniteMap.{get}
@@ -14,7 +14,7 @@ use Rattle.node_meaning.specs.declared.progress.Phase.TheVariants as phase
 use Rattle.node_meaning.specs.Node.{ModelNode, is_left, is_joining}
 use Rattle.node_meaning.specs.Client.{is_pending, served, asked, told_first, client}
 use Rattle.node_meaning.specs.Facts.{Facts}
-use Rattle.node_laws.proofs.Moves.{Kind, Pays, Works, Quiet, Move, Tells, Streams, Sends, TakesBack, Orders, Advances, Commits, May, Reaches, Here, Quietly, Working, Paying, one, chosen, kept}
+use Rattle.node_laws.proofs.Moves.{Kind, Pays, Works, Quiet, Move, Tells, Streams, Sends, TakesBack, Orders, Advances, Commits, May, Reaches, Here, Quietly, Working, one, chosen, kept}
 use Rattle.node_laws.proofs.ClientMoves.{CanCall, client_moves}
 use Rattle.node_laws.proofs.Counts.{move_grows}
 use Rattle.node_laws.proofs.SetLists.{all_push}

@@ -1,7 +1,7 @@
 -- The order grows by events of others, or by the front of the node's outbox: what holds of the node
 -- holds over the longer order, and all write sets of its member are decided there too.
-use Rattle.std.proofs.Common.{◌≡◌, ℕ, zero, suc, ◌+◌, ◌≤◌, ◌<◌, Bool, true, false, cond, List, [], ◌∷◌, ◌++◌, length, Option, Some, None, refl, ap, sym, subst, ◌∙◌, arith, drop, append-nil, ltb-true, ltb-false}
-use Rattle.std.specs.Prelude.{◌==◌, map, slice_get, nat_lt}
+use Rattle.std.proofs.Common.{◌≡◌, ℕ, zero, suc, ◌≤◌, ◌<◌, Bool, true, false, cond, List, [], ◌∷◌, ◌++◌, length, Some, None, refl, ap, sym, subst, ◌∙◌, arith, drop, append-nil, ltb-true, ltb-false}
+use Rattle.std.specs.Prelude.{map, slice_get, nat_lt}
 use Rattle.std.specs.List.{AllByRecursion, filter_map, cons_option}
 use Rattle.std.proofs.lemmas.List.{drop-append-le}
 use Rattle.std.proofs.lemmas.List.Elements.{filter_map-append}
@@ -11,7 +11,6 @@ use Rattle.order_event.specs.declared.event.Event.TheVariants as event
 use Rattle.order_event.specs.declared.event.Message.{Message}
 use Rattle.order_event.specs.declared.event.Message.TheVariants as message
 use Rattle.group_order.specs.Order.{event_of}
-use Rattle.write_set.specs.declared.write_set.WriteSet.{WriteSet}
 use Rattle.write_set.specs.Reading.{decoded}
 use Rattle.cert_meaning.specs.Verdict as rules
 use Rattle.cert_meaning.specs.Fold.{state_at}
@@ -22,7 +21,7 @@ use Rattle.node_meaning.proofs.GrowFacts.{facts_grow, pending-append}
 use Rattle.node_laws.proofs.Moves.{Joint, Pays, Orders, with_ordered}
 use Rattle.node_laws.proofs.FactsMoved.{facts_moved}
 use Rattle.node_laws.proofs.InStep.{message_of, messages_behind, IsInStep, in_step_ordered}
-use Rattle.course_laws.specs.Ordered.{pending_sets, Entered, OrderedFacts, Keeps, IsEarly, Stage, Early, Since}
+use Rattle.course_laws.specs.Ordered.{pending_sets, Entered, Keeps, Stage, Early, Since}
 use Rattle.course_laws.specs.Courses.{IsOfOthers}
 use Rattle.course_laws.specs.Laws.{IsByConflict, OwnAreDecided}
 use Rattle.course_laws.proofs.PendingSets.{within_order}

@@ -7,7 +7,7 @@ use Rattle.std.specs.Ordering.{nat_cmp, eq_by_cmp}
 use Rattle.std.specs.FinMap.Entries.{find}
 use Rattle.std.specs.Cmp.{nat_cmp_total}
 use Rattle.std.proofs.lemmas.Bool.{false_from_ne_true}
-use Rattle.finite_map.specs.FiniteMap.{FiniteMap, get, insert, remove, values, get-retain_keys, get-from_entries}
+use Rattle.finite_map.specs.FiniteMap.{FiniteMap, get, insert, values, get-retain_keys, get-from_entries}
 use Rattle.finite_map.proofs.Edits.{numbers, tied, itself, get-put, get-put_beside, get-taken_beside}
 use Rattle.wsrep_base.specs.declared.ids.TrxId.{TrxId}
 use Rattle.wsrep_base.specs.Trx.{trx_cmp, least}
@@ -25,9 +25,9 @@ use Rattle.cert_meaning.specs.Verdict as rules
 use Rattle.cert_meaning.specs.Verdict.{trx_of, is_end, is_rollback}
 use Rattle.cert_meaning.specs.Fold.{Effect, Same, Closes, Adds, Commits, effect_of, affected, written, reported, is_of, standing_in, with_serial, changed_by, after, floor_over, judged_as, judged_write, fragment_by}
 use Rattle.cert_meaning.proofs.TrxLemmas.{trx_exact, transactions}
-use Rattle.cert_meaning.proofs.VerdictLaws.{IsDecided}
 use Rattle.node_meaning.proofs.EntryLaws.{in_from_get}
-use Rattle.node_laws.proofs.SetLists.{equal, unequal}
+use Rattle.node_laws.proofs.SetLists.{equal}
+use Rattle.course_laws.specs.Laws.{IsByConflict}
 
 members-after : (s : FoldState) (e : Event) → (after s e).members ≡ (changed_by s e).members
 unfolding after
@@ -173,7 +173,7 @@ passed_effect true end is = cc
 passed_effect false true is = cc
 passed_effect false false is = cc
 
-decided_effect : (w : WriteSet) (v : Verdict) → IsDecided v → effect_of (judged_as w v) ≡ Same → ⊥
+decided_effect : (w : WriteSet) (v : Verdict) → IsByConflict v → effect_of (judged_as w v) ≡ Same → ⊥
 decided_effect w verdict.Pass h = passed_effect (is_rollback w) (is_end w)
 decided_effect w verdict.Malformed h = absurd h
 decided_effect w verdict.Stranger h = absurd h
@@ -202,7 +202,7 @@ own_affected s w m st Adds counts named is = own_serial s w m st named is
 own_affected s w m st Commits counts named is = own_serial s w m st named is
 
 pub member_own : (s : FoldState) (m : ℕ) (body : List ℕ) (w : WriteSet) (st : Standing)
-    → decoded body ≡ Some w → w.member ≡ m → IsDecided (rules.verdict s m w)
+    → decoded body ≡ Some w → w.member ≡ m → IsByConflict (rules.verdict s m w)
     → get s.members m ≡ Some st
     → get (after s (Write m body)).members m ≡ Some (record st { serial = w.serial })
 member_own s m body w st read named decided is =

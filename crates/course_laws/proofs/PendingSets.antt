@@ -1,6 +1,6 @@
 -- The write sets that are pending: they are in line with the live transactions, and the next event is
 -- the first of them where it is the member's own.
-use Rattle.std.proofs.Common.{◌≡◌, ℕ, ◌+◌, ◌≤◌, false, cond, List, [], ◌∷◌, length, map, Some, None, refl, ap, sym, subst, ◌∙◌, arith, eq-eqb}
+use Rattle.std.proofs.Common.{◌≡◌, ℕ, ◌≤◌, false, cond, List, [], ◌∷◌, length, map, Some, None, refl, ap, sym, subst, ◌∙◌, arith, eq-eqb}
 use Rattle.std.specs.Prelude.{◌==◌, slice_get}
 use Rattle.std.specs.List.{filter_map, cons_option}
 use Rattle.order_event.specs.declared.event.Event.{Event}
@@ -8,7 +8,7 @@ use Rattle.order_event.specs.declared.event.Event.TheVariants as event
 use Rattle.write_set.specs.declared.write_set.WriteSet.{WriteSet}
 use Rattle.write_set.specs.Reading.{decoded}
 use Rattle.node_meaning.specs.Node.{ModelNode}
-use Rattle.node_meaning.specs.Facts.{Facts, Lined, own_body, pending}
+use Rattle.node_meaning.specs.Facts.{Facts, Lined, pending}
 use Rattle.node_laws.proofs.Moves.{with_certified}
 use Rattle.node_laws.proofs.Heads.{IsSplit, Split, split}
 use Rattle.node_laws.proofs.SentMoved.{certifies_pending}

@@ -1,6 +1,6 @@
 -- A write set that goes on where its transaction stands passes, or another came first; and what a
 -- live transaction sends next goes on there.
-use Rattle.std.proofs.Common.{◌≡◌, ℕ, ◌≤◌, ◌<◌, Bool, true, false, cond, List, [], ◌∷◌, ◌++◌, length, Some, refl, ap, sym, subst, ◌∙◌, arith, eq-eqb, true≢false}
+use Rattle.std.proofs.Common.{◌≡◌, ℕ, ◌≤◌, ◌<◌, Bool, true, false, cond, List, [], ◌∷◌, ◌++◌, length, Option, Some, None, refl, ap, sym, subst, ◌∙◌, arith, eq-eqb, true≢false}
 use Rattle.std.specs.Prelude.{◌==◌, ◌||◌, not, nat_le, nat_lt, is_some}
 use Rattle.std.specs.Option.{option_map_or}
 use Rattle.std.specs.List.{AllByRecursion}
@@ -14,9 +14,9 @@ use Rattle.cert_meaning.specs.declared.members.Standing.{Standing}
 use Rattle.cert_meaning.specs.State.{FoldState, is_member, serial_of, is_open, fragments_of, last_seen_of, whole_keys}
 use Rattle.cert_meaning.specs.Verdict as rules
 use Rattle.cert_meaning.specs.Verdict.{trx_of, is_rollback, is_broken, is_start, is_out_of_place, conflict_or_held, conflict_of, held_by}
-use Rattle.cert_meaning.proofs.VerdictLaws.{IsDecided, decided}
 use Rattle.client_trx.specs.Live.{Live, gathered, commit_flags, fragment_flags}
-use Rattle.node_meaning.specs.Facts.{sets_of, Gathered, IsOurs}
+use Rattle.node_meaning.specs.Facts.{sets_of, Gathered, IsOurs, IsUndecided}
+use Rattle.course_laws.specs.Laws.{IsByConflict}
 use Rattle.course_laws.specs.Ordered.{SeenRises, IsPlaced, OnlyEnds, AllEnd, HasSent}
 
 -- ---- its verdict
@@ -30,8 +30,8 @@ pub record IsNext (s : FoldState) (m : ℕ) (w : WriteSet) (st : Standing) : Typ
   pub placed : IsPlaced s w
 
 decided_by : (a b c d back broken : Bool) (v : Verdict) → a ≡ false → b ≡ false → c ≡ false
-    → d ≡ false → (back ≡ false → broken ≡ false) → IsDecided v
-    → IsDecided (cond a verdict.Stranger (cond b verdict.Repeat (cond c verdict.Future
+    → d ≡ false → (back ≡ false → broken ≡ false) → IsByConflict v
+    → IsByConflict (cond a verdict.Stranger (cond b verdict.Repeat (cond c verdict.Future
     (cond d verdict.Stale (cond back verdict.Pass (cond broken verdict.Broken v))))))
 decided_by true b c d back broken v ha hb hc hd placed h = absurd (true≢false ha)
 decided_by false true c d back broken v ha hb hc hd placed h = absurd (true≢false hb)
@@ -51,8 +51,13 @@ le_false a b h = grind (arith, nat_tests)
 stranger_not : (a b : Bool) → a ≡ true → b ≡ true → not a || not b ≡ false
 stranger_not a b is own = ap (λ x. not x || not b) is ∙ ap not own
 
+tested : (conflict held : Option ℕ) → IsByConflict (conflict_or_held conflict held)
+tested (Some commit) held = tt
+tested None (Some fragment) = tt
+tested None None = tt
+
 pub next_decided : (s : FoldState) (m : ℕ) (w : WriteSet) (st : Standing) → IsNext s m w st
-    → IsDecided (rules.verdict s m w)
+    → IsByConflict (rules.verdict s m w)
 unfolding rules.verdict
 next_decided s m w st h =
     decided_by (not (is_member s m) || not (w.member == m)) (nat_le w.serial (serial_of s m))
@@ -63,7 +68,19 @@ next_decided s m w st h =
     (ap (λ o. nat_le w.serial (option_map_or (λ (x : Standing). x.serial) o 0)) h.is_member
     ∙ le_false w.serial st.serial h.serial)
     (lt_false s.number w.last_seen h.past) (lt_false w.last_seen s.floor h.fresh) h.placed
-    (decided (conflict_of s w.last_seen w.keys) (held_by s (trx_of w) w.keys))
+    (tested (conflict_of s w.last_seen w.keys) (held_by s (trx_of w) w.keys))
+
+-- such a verdict is none of the others
+pub conflict_not : (v : Verdict) → IsByConflict v → IsUndecided v → ⊥
+conflict_not verdict.Pass d u = u
+conflict_not verdict.Malformed d u = d
+conflict_not verdict.Stranger d u = d
+conflict_not verdict.Repeat d u = d
+conflict_not verdict.Future d u = d
+conflict_not verdict.Stale d u = d
+conflict_not verdict.Broken d u = d
+conflict_not (verdict.Conflict v) d u = u
+conflict_not (verdict.Held v) d u = u
 
 -- ---- what is sent next
 none_of : (a b c : Bool) → a ≡ false → b ≡ false → c ≡ false → a || b || c ≡ false

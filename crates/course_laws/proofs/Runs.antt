@@ -6,23 +6,19 @@ use Rattle.std.specs.List.{AllByRecursion}
 use Rattle.std.proofs.lemmas.List.{map-append, length-map}
 use Rattle.std.proofs.lemmas.Option.{same_Some, slice_get_within}
 use Rattle.order_event.specs.declared.event.Event.{Event}
-use Rattle.order_event.specs.declared.event.Event.TheVariants as event
 use Rattle.order_event.specs.declared.event.Message.{Message}
 use Rattle.order_event.specs.declared.event.Message.TheVariants as message
 use Rattle.order_event.specs.declared.step.Act.{Act}
 use Rattle.order_event.specs.declared.step.Act.TheVariants as act
 use Rattle.order_event.specs.declared.step.Step.{Step}
-use Rattle.group_order.specs.Order.{event_of, start_order, up_to}
-use Rattle.cert_meaning.proofs.FoldLaws.{some_there}
+use Rattle.group_order.specs.Order.{event_of, up_to}
 use Rattle.node_meaning.specs.Node.{ModelNode, start_node}
-use Rattle.node_meaning.specs.Steps.{first_sent, sent_out, node_step, drained}
-use Rattle.node_meaning.specs.Cluster.{ModelCluster, start_cluster, set_at, order_first, drain, step_of, step_at, cluster_step, run, will_order}
+use Rattle.node_meaning.specs.Steps.{sent_out, node_step, drained}
+use Rattle.node_meaning.specs.Cluster.{ModelCluster, start_cluster, set_at, order_first, drain, step_of, step_at, cluster_step, run}
 use Rattle.node_laws.proofs.Moves.{with_ordered}
-use Rattle.node_laws.proofs.AdvanceMoves.{CanDrain, CanStep, step_moves, drained_moves}
-use Rattle.node_laws.proofs.Counts.{reach_grows}
 use Rattle.node_laws.proofs.SetLists.{equal, unequal, all_push, all_each}
 use Rattle.node_laws.proofs.ClusterLaws.{Differ, ActFits, SoundCluster, step_sound, cluster_grows, length-up_to, start_sound, run_sound}
-use Rattle.course_laws.specs.Courses.{Course, Happens, Others, Does, first_event, next, course, IsOfOthers, Fits, start_course}
+use Rattle.course_laws.specs.Courses.{Course, Happens, Others, Does, first_event, next, course, IsOfOthers, Fits, AllFit}
 use Rattle.course_laws.specs.Laws.{NodeLaws, RunsAreLawful}
 use Rattle.course_laws.proofs.CourseLaws.{courses_are_lawful}
 use Rattle.course_laws.proofs.Growing.{front_get}
@@ -49,10 +45,9 @@ at_node order n = record { order = order; node = n }
 -- what a step of the cluster is for the node at a place
 record StepOf (c d : ModelCluster) (i : ℕ) (n : ModelNode) : Type 0 where
   happens : Happens
-  fits : Fits n.at.member happens
+  fits : Fits (at_node c.order n) happens
   node : ModelNode
   there : slice_get d.nodes i ≡ Some node
-  home : node.at.member ≡ n.at.member
   leads : next (at_node c.order n) happens ≡ at_node d.order node
 
 module _ (c : ModelCluster) (i : ℕ) (n : ModelNode) (there : slice_get c.nodes i ≡ Some n) where
@@ -63,7 +58,6 @@ module _ (c : ModelCluster) (i : ℕ) (n : ModelNode) (there : slice_get c.nodes
     fits = tt;
     node = n;
     there = there;
-    home = refl;
     leads = λ k. record { order = append-nil c.order k; node = n };
   }
 
@@ -76,8 +70,6 @@ module _ (c : ModelCluster) (i : ℕ) (n : ModelNode) (there : slice_get c.nodes
     fits = fits;
     node = (node_step c.order n a).1;
     there = set_here c.nodes i n (node_step c.order n a).1 there;
-    home = (reach_grows c.order (CanStep n a) true n 1 (node_step c.order n a).1
-        (step_moves c.order n a)).member;
     leads = leads;
   }
 
@@ -88,7 +80,6 @@ module _ (c : ModelCluster) (i : ℕ) (n : ModelNode) (there : slice_get c.nodes
     fits = tt;
     node = sent_out n;
     there = set_here c.nodes i n (sent_out n) there;
-    home = ap (λ queue. (first_sent n queue).at.member) is;
     leads = ap (λ queue. at_node (c.order ++ first_event n queue) (sent_out n)) is;
   }
 
@@ -100,8 +91,6 @@ module _ (c : ModelCluster) (i : ℕ) (n : ModelNode) (there : slice_get c.nodes
         fits = tt;
         node = drained order sent;
         there = set_here c.nodes i n (drained order sent) there;
-        home = (reach_grows order (CanDrain order sent) true sent 0 (drained order sent)
-            (drained_moves order (CanDrain order sent) sent (λ g. g))).member;
         leads = refl;
       }
 
@@ -142,8 +131,7 @@ module _ (c : ModelCluster) (i : ℕ) (n : ModelNode) (there : slice_get c.nodes
       fits = all_of_others xs;
       node = n;
       there = set_beside c.nodes j i o beside ∙ there;
-      home = refl;
-      leads = refl;
+        leads = refl;
     }
 
     moves : (o : ModelNode) → StepOf c (record c { nodes = set_at c.nodes j o }) i n
@@ -152,8 +140,7 @@ module _ (c : ModelCluster) (i : ℕ) (n : ModelNode) (there : slice_get c.nodes
       fits = tt;
       node = n;
       there = set_beside c.nodes j i o beside ∙ there;
-      home = refl;
-      leads = λ k. record { order = append-nil c.order k; node = n };
+        leads = λ k. record { order = append-nil c.order k; node = n };
     }
 
     first_beside : (queue : List Message) → StepOf c (order_first c j m queue).1 i n
@@ -198,10 +185,10 @@ module _ (c : ModelCluster) (i : ℕ) (n : ModelNode) (there : slice_get c.nodes
 
 -- ---- a run
 -- where it leads the node at a place
-pub record CourseOf (c : Course) (member most : ℕ) (d : ModelCluster) (i : ℕ) : Type 0 where
+pub record CourseOf (c : Course) (most : ℕ) (d : ModelCluster) (i : ℕ) : Type 0 where
   pub happens : List Happens
   pub count : length happens ≡ most
-  pub fits : AllByRecursion (Fits member) happens
+  pub fits : AllFit c happens
   pub node : ModelNode
   pub there : slice_get d.nodes i ≡ Some node
   pub leads : course c happens ≡ at_node d.order node
@@ -210,7 +197,7 @@ pub run_course : (steps : List Step) (most : ℕ) (c : ModelCluster)
     → most + length steps ≤ 2 ^ 63
     → AllByRecursion (λ (step : Step). ActFits step.act) steps → SoundCluster most c
     → (i : ℕ) (n : ModelNode) → slice_get c.nodes i ≡ Some n
-    → CourseOf (at_node c.order n) n.at.member (length steps) (run steps c).1 i
+    → CourseOf (at_node c.order n) (length steps) (run steps c).1 i
 unfolding run
 run_course [] most c few fits sound i n there =
     record { happens = []; count = refl; fits = tt; node = n; there = there; leads = refl }
@@ -222,7 +209,7 @@ run_course (step ∷ steps) most c few fits sound i n there =
     record {
       happens = s.happens ∷ rest.happens;
       count = ap suc rest.count;
-      fits = (s.fits, subst (λ k. AllByRecursion (Fits k) rest.happens) s.home rest.fits);
+      fits = (s.fits, subst (λ x. AllFit x rest.happens) (sym s.leads) rest.fits);
       node = rest.node;
       there = rest.there;
       leads = ap (λ x. course x rest.happens) s.leads ∙ rest.leads;

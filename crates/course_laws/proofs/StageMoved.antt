@@ -1,11 +1,11 @@
 -- Every move keeps the stage of a node: that it has certified nothing, has nothing live and has sent
 -- nothing, or what holds over the order so far.
-use Rattle.std.proofs.Common.{◌≡◌, ℕ, ◌+◌, ◌≤◌, ◌<◌, Bool, true, false, List, [], ◌∷◌, length, Option, Some, None, refl, ap, sym, subst, ◌∙◌, arith}
-use Rattle.std.specs.Prelude.{◌==◌, ◌||◌, slice_get}
-use Rattle.std.specs.List.{filter_map, cons_option, list_any}
+use Rattle.std.proofs.Common.{◌≡◌, ℕ, ◌+◌, ◌≤◌, List, [], length, Some, None, refl, ap, sym, subst, ◌∙◌, arith}
+use Rattle.std.specs.Prelude.{◌==◌, slice_get}
+use Rattle.std.specs.List.{filter_map, list_any}
 use Rattle.std.specs.Ordering.{nat_cmp}
 use Rattle.std.proofs.lemmas.Option.{same_Some}
-use Rattle.finite_map.specs.FiniteMap.{FiniteMap, get, insert, remove, get-empty}
+use Rattle.finite_map.specs.FiniteMap.{FiniteMap, get, remove, get-empty}
 use Rattle.finite_map.proofs.Edits.{numbers, left}
 use Rattle.wsrep_base.specs.declared.ids.TrxId.{TrxId}
 use Rattle.wsrep_base.specs.Trx.{trx_cmp}
@@ -16,8 +16,7 @@ use Rattle.cert_meaning.specs.declared.members.Standing.{Standing}
 use Rattle.cert_meaning.specs.State.{FoldState, no_events}
 use Rattle.cert_meaning.specs.Fold.{after, state_at}
 use Rattle.cert_meaning.proofs.FoldLaws.{state_at-next}
-use Rattle.client_trx.specs.Live.{Live, with_status, rollback_of}
-use Rattle.write_set.specs.Spelling.{spelling}
+use Rattle.client_trx.specs.Live.{Live, with_status}
 use Rattle.node_meaning.specs.Node.{ModelNode}
 use Rattle.node_meaning.specs.Client.{extended}
 use Rattle.node_meaning.specs.Facts.{Facts, pending}

@@ -57,9 +57,13 @@ IsOfOthers member (event.View version members) = list_any (λ k. k == member) me
 IsOfOthers member (event.Report sender number) = sender == member ≡ false
 
 -- a call of the node has names in their form and values in range
-abbrev pub Fits : ℕ → Happens → Type 0
-Fits member (Others events) = AllByRecursion (IsOfOthers member) events
-Fits member (Does a) = ActFits a
+abbrev pub Fits : Course → Happens → Type 0
+Fits c (Others events) = AllByRecursion (IsOfOthers c.node.at.member) events
+Fits c (Does a) = ActFits a
+
+abbrev pub AllFit : Course → List Happens → Type 0
+AllFit c [] = Unit {0}
+AllFit c (h ∷ happens) = Fits c h × AllFit (next c h) happens
 
 -- node `member` of so many at its start
 abbrev pub start_course : ℕ → List ℕ → ℕ → Course

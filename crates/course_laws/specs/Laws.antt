@@ -21,7 +21,7 @@ use Rattle.node_meaning.specs.Facts.{sets_of, HasFailed}
 use Rattle.node_laws.proofs.InStep.{IsInStep}
 use Rattle.node_laws.proofs.ClusterLaws.{ActFits}
 use Rattle.course_laws.specs.Ordered.{pending_sets}
-use Rattle.course_laws.specs.Courses.{Course, Happens, Fits, course, start_course}
+use Rattle.course_laws.specs.Courses.{Happens, AllFit, course, start_course}
 
 -- it passes, or another came first
 abbrev pub IsByConflict : Verdict → Type 0
@@ -65,7 +65,7 @@ abbrev pub CoursesAreLawful : Type 0
 CoursesAreLawful =
     (nodes member : ℕ) (id : List ℕ) (happens : List Happens)
     → 1 ≤ member → member ≤ nodes → member < 2 ^ 32
-    → AllByRecursion (Fits member) happens → length happens < 2 ^ 63
+    → AllFit (start_course nodes id member) happens → length happens < 2 ^ 63
     → length (course (start_course nodes id member) happens).order ≤ 2 ^ 63
     → NodeLaws (course (start_course nodes id member) happens).order
     (course (start_course nodes id member) happens).node
