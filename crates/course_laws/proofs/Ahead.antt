@@ -1,5 +1,5 @@
--- All write sets of a node's member in the order so far are decided, whether it took them or not: all
--- is taken and certified ahead, in thought alone.
+-- All write sets of a node's member in the order so far are decided, whether it took them or not:
+-- all is taken and certified ahead, in thought alone.
 use Rattle.std.proofs.Common.{◌≡◌, ℕ, zero, suc, ◌+◌, ◌-◌, ◌≤◌, Bool, true, false, cond, List, length, Option, Some, None, refl, ap, sym, subst, ◌∙◌, arith}
 use Rattle.std.specs.Prelude.{◌==◌, slice_get}
 use Rattle.std.proofs.lemmas.Option.{slice_get_within}

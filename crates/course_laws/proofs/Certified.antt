@@ -1,5 +1,5 @@
--- What holds over the order so far holds when one more event is certified: an event of another member,
--- a view that has the member, or the member's own oldest pending write set, which is decided.
+-- What holds over the order so far holds when one more event is certified: an event of another
+-- member, a view that has the member, or the member's oldest pending write set, which is decided.
 use Rattle.std.proofs.Common.{◌≡◌, ℕ, ◌+◌, ◌≤◌, Bool, true, false, cond, List, [], ◌∷◌, ◌++◌, length, Option, Some, None, refl, ap, sym, subst, ◌∙◌, arith, eq-eqb, true≢false}
 use Rattle.std.specs.Prelude.{◌==◌, ◌||◌, not, nat_lt, is_some, unwrap_or}
 use Rattle.std.specs.List.{AllByRecursion}

@@ -1,5 +1,5 @@
--- Along every course of a node from its start, what holds of the node over the order so far is kept,
--- and so are the laws.
+-- Along every course of a node from its start, what holds of the node over the order so far is
+-- kept, and so are the laws.
 use Rattle.std.proofs.Common.{◌≡◌, ℕ, zero, suc, ◌+◌, ◌≤◌, ◌<◌, ◌^◌, Bool, true, false, cond, List, [], ◌∷◌, ◌++◌, length, Some, refl, ap, sym, subst, ◌∙◌, arith, append-nil, length-append, eq-eqb, true≢false}
 use Rattle.std.specs.Prelude.{◌==◌, ◌||◌, map}
 use Rattle.std.specs.List.{AllByRecursion, list_any}
@@ -304,7 +304,8 @@ module _ (nodes member : ℕ) (id : List ℕ)
   n = start_node id member
 
   start_keeps : AllKeep (start_order nodes) member
-  start_keeps zero e there = subst (Keeps member) (same_Some (event.View 1 (up_to nodes)) e there) has
+  start_keeps zero e there =
+      subst (Keeps member) (same_Some (event.View 1 (up_to nodes)) e there) has
   start_keeps (suc k) e there = cc
 
   start_decided : OwnAreDecided (start_order nodes) member

@@ -1,4 +1,4 @@
--- What an event does to a member's standing, to the floor, and to transactions that are not its own.
+-- What an event does to a member's standing, to the floor, and to transactions that it is not of.
 use Rattle.std.proofs.Common.{◌≡◌, ℕ, ◌+◌, ◌≤◌, Bool, true, false, cond, List, [], ◌∷◌, ◌++◌, inl, inr, Option, Some, None, refl, ap, sym, subst, ◌∙◌, arith, eq-eqb, true≢false}
 use Rattle.std.specs.Prelude.{◌==◌, not, ◌||◌, ◌&&◌, map, unwrap_or, min, nat_le, nat_lt}
 use Rattle.std.specs.List.{list_any}
@@ -173,7 +173,8 @@ passed_effect true end is = cc
 passed_effect false true is = cc
 passed_effect false false is = cc
 
-decided_effect : (w : WriteSet) (v : Verdict) → IsByConflict v → effect_of (judged_as w v) ≡ Same → ⊥
+decided_effect : (w : WriteSet) (v : Verdict) → IsByConflict v
+    → effect_of (judged_as w v) ≡ Same → ⊥
 decided_effect w verdict.Pass h = passed_effect (is_rollback w) (is_end w)
 decided_effect w verdict.Malformed h = absurd h
 decided_effect w verdict.Stranger h = absurd h

@@ -1,5 +1,5 @@
--- The write sets that are pending: they are in line with the live transactions, and the next event is
--- the first of them where it is the member's own.
+-- The write sets that are pending: they are in line with the live transactions, and the next event
+-- is the first of them where it is the member's own.
 use Rattle.std.proofs.Common.{◌≡◌, ℕ, ◌≤◌, false, cond, List, [], ◌∷◌, length, map, Some, None, refl, ap, sym, subst, ◌∙◌, arith, eq-eqb}
 use Rattle.std.specs.Prelude.{◌==◌, slice_get}
 use Rattle.std.specs.List.{filter_map, cons_option}

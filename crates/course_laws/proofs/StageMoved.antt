@@ -1,5 +1,5 @@
--- Every move keeps the stage of a node: that it has certified nothing, has nothing live and has sent
--- nothing, or what holds over the order so far.
+-- Every move keeps the stage of a node: that it has certified nothing, has nothing live and has
+-- sent nothing, or what holds over the order so far.
 use Rattle.std.proofs.Common.{◌≡◌, ℕ, ◌+◌, ◌≤◌, List, [], length, Some, None, refl, ap, sym, subst, ◌∙◌, arith}
 use Rattle.std.specs.Prelude.{◌==◌, slice_get}
 use Rattle.std.specs.List.{filter_map, list_any}
@@ -108,7 +108,8 @@ module _ (order : List Event) (n : ModelNode) (f : Facts order n) (h : OrderedFa
 
 -- ---- before that
 module _ (order : List Event) (n : ModelNode) (f : Facts order n)
-    (h : IsEarly order n.at.member n.at.view n.at.certified n.at.serial n.live (pending order n)) where
+    (h : IsEarly order n.at.member n.at.view n.at.certified n.at.serial n.live
+    (pending order n)) where
   -- the first event is the view of its member
   pub first_event : (e : Event) → slice_get order n.at.certified ≡ Some e
       → e ≡ event.View h.version h.members
@@ -176,7 +177,8 @@ module _ (order : List Event) (n : ModelNode) (f : Facts order n)
   early_moved given k m synced (Begins se unit may) =
       let s = synced refl in
       absurd (omega (arith, s, f.in_order.committed_fits, h.none, h.first))
-  early_moved given k m synced (Extends se t change here fits free) = absurd (h.idle se t here.there)
+  early_moved given k m synced (Extends se t change here fits free) =
+      absurd (h.idle se t here.there)
   early_moved given k m synced (Streams se t here change range) = absurd (h.idle se t here.there)
   early_moved given k m synced (Sends se t here range) = absurd (h.idle se t here.there)
   early_moved given k m synced (Ends se t o there) = absurd (h.idle se t there)

@@ -91,7 +91,8 @@ module _ (order : List Event) (n : ModelNode) (h : IsInStep order n) where
     split_by None there is =
         absurd (nothing_not (sym (ap (λ (x : Answer × ModelNode). x.0) (none_taken there)) ∙ is))
     split_by (Some e) there is =
-        absurd (took_not (n.at.taken + 1) (sym (ap (λ (x : Answer × ModelNode). x.0) (taken e there).is) ∙ is))
+        absurd (took_not (n.at.taken + 1)
+        (sym (ap (λ (x : Answer × ModelNode). x.0) (taken e there).is) ∙ is))
 
     pub no_split : NoSplit order n
     no_split = split_by (slice_get order n.at.taken) refl

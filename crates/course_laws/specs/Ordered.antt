@@ -1,4 +1,4 @@
--- what holds of a node of a cluster over the order so far, beside the facts that hold over any order
+-- what holds of a node of a cluster over the order so far, beside the facts that hold over any
 use Rattle.std.specs.Prelude.{◌≡◌, ◌≤◌, ◌<◌, ℕ, ◌==◌, max, not, false, true, List, [], ◌∷◌, length, slice_get, Some, None}
 use Rattle.std.specs.List.{filter_map, list_any, AllByRecursion}
 use Rattle.std.specs.Ordering.{nat_cmp}
@@ -39,7 +39,8 @@ abbrev pub AllEnd : List WriteSet → Type 0
 AllEnd [] = Unit {0}
 AllEnd (w ∷ sets) = OnlyEnds w sets × AllEnd sets
 
--- as many fragments of the transaction have passed as were sent, and none saw more than is committed
+-- as many fragments of the transaction have passed as were sent, and the last saw no more than is
+-- committed
 pub record HasSent (s : FoldState) (committed : ℕ) (t : Live) : Type 0 where
   pub opened : is_open s t.trx ≡ not (t.sent == 0)
   pub count : length (fragments_of s t.trx) ≡ t.sent
@@ -73,7 +74,8 @@ OrderedFacts order n =
     Entered (state_at order n.at.certified) n.at.member n.at.view n.at.begin n.at.serial
     n.at.committed n.live (pending_sets order n)
 
--- what an event of a course keeps of a member: a view has it, and no report is its own, as none is sent
+-- what an event of a course keeps of a member: a view has it, and no report is its own, as no node
+-- sends one
 abbrev pub Keeps : ℕ → Event → Type 0
 Keeps member (event.Write sender body) = Unit {0}
 Keeps member (event.View version members) = list_any (λ k. k == member) members ≡ true
