@@ -11,3 +11,4 @@ pub mod Ahead
 pub mod Growing
 pub mod CourseLaws
 pub mod Runs
+pub mod Answers

@@ -7,6 +7,7 @@ use Rattle.wsrep_base.specs.declared.verdict.Verdict.{Verdict}
 use Rattle.wsrep_base.specs.declared.verdict.Verdict.TheVariants as verdict
 use Rattle.order_event.specs.declared.event.Event.{Event}
 use Rattle.order_event.specs.declared.event.Event.TheVariants as event
+use Rattle.order_event.specs.declared.step.Answer.{Answer}
 use Rattle.order_event.specs.declared.step.Answer.TheVariants as answer
 use Rattle.order_event.specs.declared.step.Step.{Step}
 use Rattle.write_set.specs.declared.write_set.WriteSet.{WriteSet}
@@ -78,3 +79,11 @@ RunsAreLawful =
     → AllByRecursion (λ (step : Step). ActFits step.act) steps → (i : ℕ) (n : ModelNode)
     → slice_get (run steps (start_cluster nodes id)).1.nodes i ≡ Some n
     → NodeLaws (run steps (start_cluster nodes id)).1.order n
+
+-- no step of any run of a cluster answers SPLIT
+abbrev pub RunsNeverSplit : Type 0
+RunsNeverSplit =
+    (nodes : ℕ) (id : List ℕ) (steps : List Step)
+    → nodes < 2 ^ 32 → length steps < 2 ^ 63
+    → AllByRecursion (λ (step : Step). ActFits step.act) steps
+    → AllByRecursion (λ (a : Answer). a ≡ answer.Split → ⊥) (run steps (start_cluster nodes id)).0

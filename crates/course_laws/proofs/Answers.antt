@@ -1,0 +1,155 @@
+-- Only a take could answer SPLIT, and none does: so no step of a run answers it.
+use Rattle.std.proofs.Common.{◌≡◌, ℕ, ◌+◌, ◌-◌, ◌<◌, ◌^◌, Bool, true, false, cond, List, [], ◌∷◌, ◌++◌, length, Option, Some, None, refl, ap, sym, subst, ◌∙◌, arith, length-append, true≢false}
+use Rattle.std.specs.Prelude.{◌==◌, slice_get, is_some}
+use Rattle.std.specs.List.{AllByRecursion}
+use Rattle.finite_map.specs.FiniteMap.{get}
+use Rattle.wsrep_base.specs.Trx.{greatest}
+use Rattle.order_event.specs.declared.event.Event.{Event}
+use Rattle.order_event.specs.declared.event.Message.{Message}
+use Rattle.order_event.specs.declared.step.Act.{Act}
+use Rattle.order_event.specs.declared.step.Act.TheVariants as act
+use Rattle.order_event.specs.declared.step.Answer.{Answer}
+use Rattle.order_event.specs.declared.step.Answer.TheVariants as answer
+use Rattle.order_event.specs.declared.step.Step.{Step}
+use Rattle.cert_meaning.specs.declared.items.CommitItem.{CommitItem}
+use Rattle.node_meaning.specs.declared.progress.Stage.{Stage}
+use Rattle.node_meaning.specs.declared.progress.Stage.TheVariants.{Started, Finished}
+use Rattle.node_meaning.specs.Node.{ModelNode, ApplyUnit, ahead, passed_at}
+use Rattle.node_meaning.specs.Steps.{is_local, touching_before, certify_event, certify_step, start_after, start_unit, start_step, finish_stage, finish_unit, finish_step, is_ready, committed_next, advance_step}
+use Rattle.node_meaning.specs.Cluster.{ModelCluster, start_cluster, order_first, step_of, step_at, cluster_step, run}
+use Rattle.node_laws.proofs.ClusterLaws.{ActFits}
+use Rattle.node_laws.proofs.SetLists.{all_push}
+use Rattle.course_laws.specs.Laws.{NoSplit, RunsNeverSplit}
+use Rattle.course_laws.proofs.Runs.{runs_are_lawful}
+
+abbrev is_split : Answer → Bool
+is_split answer.Split = true
+is_split other = false
+
+-- ---- the steps that do not take
+module _ (order : List Event) (n : ModelNode) where
+  either_by : (b : Bool) (x y : Answer × ModelNode) → is_split x.0 ≡ false → is_split y.0 ≡ false
+      → is_split (cond b x y).0 ≡ false
+  either_by true x y one other = one
+  either_by false x y one other = other
+
+  certify_by : (o : Option Event) → is_split (certify_event order n o).0 ≡ false
+  certify_by None = refl
+  certify_by (Some e) = refl
+
+  certify_whole : is_split (certify_step order n).0 ≡ false
+  unfolding certify_step
+  certify_whole =
+      either_by (n.at.certified == n.at.taken) (answer.Nothing, n) _ refl
+      (certify_by (slice_get order n.at.certified))
+
+  after_by : (number : ℕ) (commit : CommitItem) (o : Option ℕ)
+      → is_split (start_after n number commit.keys o).0 ≡ false
+  after_by number commit None = refl
+  after_by number commit (Some earlier) = refl
+
+  unit_by : (number : ℕ) (o : Option CommitItem)
+      → is_split (start_unit order n number o).0 ≡ false
+  unit_by number None = refl
+  unit_by number (Some commit) =
+      either_by (is_some (get n.units number)) (answer.NoUnit number, n) _ refl
+      (either_by (is_local n.live number) (answer.Local number, n) _ refl
+      (after_by number commit (greatest (touching_before
+      (ahead order n.at.committed n.at.certified) number commit.keys))))
+
+  start_whole : (number : ℕ) → is_split (start_step order n number).0 ≡ false
+  unfolding start_step
+  start_whole number = unit_by number (passed_at order n.at.committed n.at.certified number)
+
+  finish_by : (number : ℕ) (u : ApplyUnit) (stage : Stage)
+      → is_split (finish_stage n number u.keys stage).0 ≡ false
+  finish_by number u Started = refl
+  finish_by number u Finished = refl
+
+  found_by : (number : ℕ) (o : Option ApplyUnit) → is_split (finish_unit n number o).0 ≡ false
+  found_by number None = refl
+  found_by number (Some u) = finish_by number u u.stage
+
+  finish_whole : (number : ℕ) → is_split (finish_step n number).0 ≡ false
+  unfolding finish_step
+  finish_whole number = found_by number (get n.units number)
+
+  advance_whole : is_split (advance_step order n).0 ≡ false
+  unfolding advance_step
+  advance_whole =
+      let number = n.at.committed + 1 in
+      either_by (n.at.committed == n.at.certified) (answer.Nothing, n) _ refl
+      (either_by (is_ready order n (n.at.committed + 1)) (answer.At number, committed_next n number)
+      (answer.NotReady number, n) refl refl)
+
+-- ---- a step of the cluster
+
+not_split : (a : Answer) → is_split a ≡ false → a ≡ answer.Split → ⊥
+not_split a whole is = true≢false (sym (ap is_split is) ∙ whole)
+
+module _ (c : ModelCluster) (i : ℕ) (n : ModelNode) (whole : NoSplit c.order n) where
+  first_by : (queue : List Message) → is_split (order_first c i n queue).0 ≡ false
+  first_by [] = refl
+  first_by (m ∷ ms) = refl
+
+  step_whole : (a : Act) → (step_of c i n a).0 ≡ answer.Split → ⊥
+  step_whole (act.Client session call) = not_split _ refl
+  step_whole act.Order = not_split _ (first_by n.outbox)
+  step_whole act.Take = whole
+  step_whole act.Certify = not_split _ (certify_whole c.order n)
+  step_whole (act.Start number) = not_split _ (start_whole c.order n number)
+  step_whole (act.Finish number) = not_split _ (finish_whole c.order n number)
+  step_whole act.Advance = not_split _ (advance_whole c.order n)
+  step_whole act.Drain = not_split _ refl
+  step_whole act.Report = not_split _ refl
+  step_whole act.Status = not_split _ refl
+  step_whole act.Leave = not_split _ refl
+  step_whole (act.Join fresh) = not_split _ refl
+  step_whole (act.Transfer donor) = not_split _ refl
+
+module _ (c : ModelCluster)
+    (whole : (i : ℕ) (n : ModelNode) → slice_get c.nodes i ≡ Some n → NoSplit c.order n) where
+  at_whole : (i : ℕ) (o : Option ModelNode) (a : Act) → slice_get c.nodes i ≡ o
+      → (step_at c i o a).0 ≡ answer.Split → ⊥
+  at_whole i None a there = not_split _ refl
+  at_whole i (Some n) a there = step_whole c i n (whole i n there) a
+
+  cluster_whole : (step : Step) → (cluster_step c step).0 ≡ answer.Split → ⊥
+  unfolding cluster_step
+  cluster_whole step =
+      at_whole (step.node - 1) (slice_get c.nodes (step.node - 1)) step.act refl
+
+-- ---- a run
+run_more : (front : List Step) (step : Step) (c : ModelCluster)
+    → (run (front ++ step ∷ []) c).1 ≡ (cluster_step (run front c).1 step).1
+unfolding run
+run_more [] step c = refl
+run_more (s ∷ front) step c = run_more front step (cluster_step c s).1
+
+abbrev Whole : Answer → Type 0
+Whole a = a ≡ answer.Split → ⊥
+
+module _ (nodes : ℕ) (id : List ℕ) (small : nodes < 2 ^ 32) where
+  abbrev Fit : Step → Type 0
+  Fit step = ActFits step.act
+
+  answers_whole : (steps front : List Step) → length front + length steps < 2 ^ 63
+      → AllByRecursion Fit front → AllByRecursion Fit steps
+      → AllByRecursion Whole (run steps (run front (start_cluster nodes id)).1).0
+  unfolding run
+  answers_whole [] front few before fits = tt
+  answers_whole (step ∷ steps) front few before fits =
+      let c = (run front (start_cluster nodes id)).1 in
+      let count = length-append front (step ∷ []) in (
+        cluster_whole c (λ i n there.
+        (runs_are_lawful nodes id front small (omega (arith, few)) before i n there).whole) step,
+        subst (λ d. AllByRecursion Whole (run steps d).0)
+            (run_more front step (start_cluster nodes id))
+            (answers_whole steps (front ++ step ∷ []) (omega (arith, few, count))
+            (all_push Fit front step before fits.0) fits.1),
+      )
+
+pub runs_never_split : RunsNeverSplit
+unfolding run
+runs_never_split nodes id steps small few fits =
+    answers_whole nodes id small steps [] (omega (arith, few)) tt fits
