@@ -142,7 +142,7 @@ module _ (nodes : ℕ) (id : List ℕ) (small : nodes < 2 ^ 32) where
       let c = (run front (start_cluster nodes id)).1 in
       let count = length-append front (step ∷ []) in (
         cluster_whole c (λ i n there.
-        (runs_are_lawful nodes id front small (omega (arith, few)) before i n there).whole) step,
+            (runs_are_lawful nodes id front small (omega (arith, few)) before i n there).whole) step,
         subst (λ d. AllByRecursion Whole (run steps d).0)
             (run_more front step (start_cluster nodes id))
             (answers_whole steps (front ++ step ∷ []) (omega (arith, few, count))

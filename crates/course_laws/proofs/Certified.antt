@@ -164,8 +164,8 @@ module _ (s : FoldState) (m v b serial p : ℕ) (live : FiniteMap nat_cmp Live) 
   behind_placed (x ∷ ws) all ends = (
     λ back.
         broken_same s next x
-            (others_kept (trx_of x) (λ same. true≢false (sym (ends.0 (sym same)) ∙ back)))
-            ∙ all.0 back,
+        (others_kept (trx_of x) (λ same. true≢false (sym (ends.0 (sym same)) ∙ back)))
+        ∙ all.0 back,
     behind_placed ws all.1 ends.1,
   )
 

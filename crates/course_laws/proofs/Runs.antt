@@ -131,7 +131,7 @@ module _ (c : ModelCluster) (i : ℕ) (n : ModelNode) (there : slice_get c.nodes
       fits = all_of_others xs;
       node = n;
       there = set_beside c.nodes j i o beside ∙ there;
-        leads = refl;
+      leads = refl;
     }
 
     moves : (o : ModelNode) → StepOf c (record c { nodes = set_at c.nodes j o }) i n
@@ -140,7 +140,7 @@ module _ (c : ModelCluster) (i : ℕ) (n : ModelNode) (there : slice_get c.nodes
       fits = tt;
       node = n;
       there = set_beside c.nodes j i o beside ∙ there;
-        leads = λ k. record { order = append-nil c.order k; node = n };
+      leads = λ k. record { order = append-nil c.order k; node = n };
     }
 
     first_beside : (queue : List Message) → StepOf c (order_first c j m queue).1 i n
