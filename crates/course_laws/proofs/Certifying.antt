@@ -34,7 +34,7 @@ use Rattle.course_laws.specs.Laws.{IsByConflict}
 use Rattle.course_laws.specs.Ordered.{pending_sets, HasSent, GoesOn, Entered, OrderedFacts, Keeps}
 use Rattle.course_laws.proofs.Members.{IsApart, member_foreign, member_view, member_report_foreign}
 use Rattle.course_laws.proofs.Placing.{conflict_not}
-use Rattle.course_laws.proofs.Certified.{beside_entered, head_decided, other_goes, fragment_sent_passed, head_entered}
+use Rattle.course_laws.proofs.NextEvent.{beside_entered, head_decided, other_goes, fragment_sent_passed, head_entered}
 use Rattle.course_laws.proofs.PendingSets.{sets_lined, within_order, OwnNext, own_next}
 
 -- the one that stands alone is the first

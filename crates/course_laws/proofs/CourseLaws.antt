@@ -217,7 +217,7 @@ module _ (member most : ℕ) (small : member < 2 ^ 32) (few : most ≤ 2 ^ 63) w
   does_kept c h (act.Transfer donor) fits short =
       step_kept c.order c.node h short (act.Transfer donor) fits
 
-  next_kept : (c : Course) → Kept member most c.order c.node → (x : Happens) → Fits c x
+  pub next_kept : (c : Course) → Kept member most c.order c.node → (x : Happens) → Fits c x
       → length (next c x).order ≤ 2 ^ 63
       → Kept member (most + 1) (next c x).order (next c x).node
   next_kept c h (Others events) fits short =
@@ -341,7 +341,7 @@ module _ (nodes member : ℕ) (id : List ℕ)
 
 -- ---- the laws
 module _ (member most : ℕ) (order : List Event) (n : ModelNode) (h : Kept member most order n) where
-  none_failed : NoneFailed order n
+  pub none_failed : NoneFailed order n
   none_failed trx own failed =
       let home : trx.member ≡ member = own ∙ h.follows.home in
       let was = h.decided failed.before failed.body

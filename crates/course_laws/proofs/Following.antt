@@ -72,7 +72,7 @@ synced_moved order given n k m _ h = h
 
 module _ (order : List Event) (member : ℕ) (keeps : AllKeep order member) (given : Type 0)
     (g : given) where
-  follow_moved : (n : ModelNode) (k : Kind) (m : ModelNode)
+  pub follow_moved : (n : ModelNode) (k : Kind) (m : ModelNode)
       → (k ≡ Pays → n.at.view ≤ n.at.committed) → May true k → Move order given n k m
       → Follows order member n → Follows order member m
   follow_moved n k m synced may move h = record {

@@ -1,6 +1,6 @@
 pub mod Members
 pub mod Placing
-pub mod Certified
+pub mod NextEvent
 pub mod PendingSets
 pub mod Sending
 pub mod Certifying
