@@ -382,10 +382,20 @@ module _ (member most : ℕ) (order : List Event) (n : ModelNode) (h : Kept memb
     none_failed = none_failed;
   }
 
+-- ---- from a start
+pub from_start : (nodes member : ℕ) (id : List ℕ) (happens : List Happens)
+    → 1 ≤ member → member ≤ nodes → member < 2 ^ 32
+    → AllFit (start_course nodes id member) happens → length happens < 2 ^ 63
+    → length (course (start_course nodes id member) happens).order ≤ 2 ^ 63
+    → Kept member (1 + length happens) (course (start_course nodes id member) happens).order
+    (course (start_course nodes id member) happens).node
+from_start nodes member id happens above below small fits few short =
+    course_kept member 1 small (start_course nodes id member) happens (omega (arith, few)) fits short
+    (start_kept nodes member id (is_numbered nodes member above below))
+
 -- the laws hold at the end of every course from a start
 pub courses_are_lawful : CoursesAreLawful
 courses_are_lawful nodes member id happens above below small fits few short =
-    let c = start_course nodes id member in
-    kept_laws member (1 + length happens) (course c happens).order (course c happens).node
-    (course_kept member 1 small c happens (omega (arith, few)) fits short
-    (start_kept nodes member id (is_numbered nodes member above below)))
+    let c = course (start_course nodes id member) happens in
+    kept_laws member (1 + length happens) c.order c.node
+    (from_start nodes member id happens above below small fits few short)

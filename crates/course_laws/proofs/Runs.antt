@@ -19,8 +19,8 @@ use Rattle.node_laws.proofs.Moves.{with_ordered}
 use Rattle.node_laws.proofs.SetLists.{equal, unequal, all_push, all_each}
 use Rattle.node_laws.proofs.ClusterLaws.{Differ, ActFits, SoundCluster, step_sound, cluster_grows, length-up_to, start_sound, run_sound}
 use Rattle.course_laws.specs.Courses.{Course, Happens, Others, Does, first_event, next, course, IsOfOthers, Fits, AllFit}
-use Rattle.course_laws.specs.Laws.{NodeLaws, RunsAreLawful}
-use Rattle.course_laws.proofs.CourseLaws.{courses_are_lawful}
+use Rattle.course_laws.specs.Laws.{RunsAreLawful}
+use Rattle.course_laws.proofs.CourseLaws.{Kept, kept_laws, from_start}
 use Rattle.course_laws.proofs.Growing.{front_get}
 
 -- ---- one node takes another's place
@@ -265,10 +265,14 @@ run_count [] c = refl
 run_count (step ∷ steps) c =
     run_count steps (cluster_step c step).1 ∙ (cluster_grows c step).count
 
--- the laws hold of every node of every run
-pub runs_are_lawful : RunsAreLawful
+-- what is kept of a node along its course is kept of every node of every run
+pub runs_kept : (nodes : ℕ) (id : List ℕ) (steps : List Step)
+    → nodes < 2 ^ 32 → length steps < 2 ^ 63
+    → AllByRecursion (λ (step : Step). ActFits step.act) steps → (i : ℕ) (n : ModelNode)
+    → slice_get (run steps (start_cluster nodes id)).1.nodes i ≡ Some n
+    → Kept (suc i) (1 + length steps) (run steps (start_cluster nodes id)).1.order n
 unfolding start_cluster
-runs_are_lawful nodes id steps small few fits i n there =
+runs_kept nodes id steps small few fits i n there =
     let start = start_cluster nodes id in
     let final = (run steps start).1 in
     let inside : i < nodes =
@@ -282,8 +286,16 @@ runs_are_lawful nodes id steps small few fits i n there =
     (start_at id nodes i inside) in
     let short : length final.order ≤ 2 ^ 63 = omega (arith, size, few) in
     let same : c.node ≡ n = same_Some c.node n (sym c.there ∙ there) in
-    subst (NodeLaws final.order) same
-    (subst (λ (x : Course). NodeLaws x.order x.node) c.leads
-    (courses_are_lawful nodes member id c.happens (omega arith) inside
+    subst (Kept member (1 + length steps) final.order) same
+    (subst (λ (x : Course). Kept member (1 + length steps) x.order x.node) c.leads
+    (subst (λ k. Kept member (1 + k) (course (at_node start.order (start_node id member))
+    c.happens).order (course (at_node start.order (start_node id member)) c.happens).node) c.count
+    (from_start nodes member id c.happens (omega arith) inside
     (omega (arith, inside, small)) c.fits (omega (arith, c.count, few))
-    (subst (λ (x : Course). length x.order ≤ 2 ^ 63) (sym c.leads) short)))
+    (subst (λ (x : Course). length x.order ≤ 2 ^ 63) (sym c.leads) short))))
+
+-- the laws hold of every node of every run
+pub runs_are_lawful : RunsAreLawful
+runs_are_lawful nodes id steps small few fits i n there =
+    kept_laws (suc i) (1 + length steps) (run steps (start_cluster nodes id)).1.order n
+    (runs_kept nodes id steps small few fits i n there)
