@@ -140,9 +140,9 @@ module _ (nodes : ℕ) (id : List ℕ) (small : nodes < 2 ^ 32) where
   answers_whole [] front few before fits = tt
   answers_whole (step ∷ steps) front few before fits =
       let c = (run front (start_cluster nodes id)).1 in
-      let count = length-append front (step ∷ []) in (
-        cluster_whole c (λ i n there.
-            (runs_are_lawful nodes id front small (omega (arith, few)) before i n there).whole) step,
+      let count = length-append front (step ∷ []) in
+      let laws = runs_are_lawful nodes id front small (omega (arith, few)) before in (
+        cluster_whole c (λ i n there. (laws i n there).whole) step,
         subst (λ d. AllByRecursion Whole (run steps d).0)
             (run_more front step (start_cluster nodes id))
             (answers_whole steps (front ++ step ∷ []) (omega (arith, few, count))

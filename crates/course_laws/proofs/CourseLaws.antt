@@ -390,8 +390,8 @@ pub from_start : (nodes member : ℕ) (id : List ℕ) (happens : List Happens)
     → Kept member (1 + length happens) (course (start_course nodes id member) happens).order
     (course (start_course nodes id member) happens).node
 from_start nodes member id happens above below small fits few short =
-    course_kept member 1 small (start_course nodes id member) happens (omega (arith, few)) fits short
-    (start_kept nodes member id (is_numbered nodes member above below))
+    course_kept member 1 small (start_course nodes id member) happens (omega (arith, few)) fits
+    short (start_kept nodes member id (is_numbered nodes member above below))
 
 -- the laws hold at the end of every course from a start
 pub courses_are_lawful : CoursesAreLawful
