@@ -1,6 +1,6 @@
 -- Tables in which each holder has the same keys: edits keep it, and what they answer is the same.
 use Rattle.std.proofs.Common.{◌≡◌, ◌+◌, ◌<◌, Bool, true, false, cond, List, [], ◌∷◌, map, length, take, get_or, Option, None, Some, refl, sym, ap, ◌∙◌, true≢false}
-use Rattle.std.specs.Prelude.{ℕ, ◌&&◌, not, Result, Ok, Err, IsOk, OnOk}
+use Rattle.std.specs.Prelude.{ℕ, ◌&&◌, not}
 use Rattle.std.specs.Option.{unwrap_or}
 use Rattle.std.specs.List.{filter_map, cons_option}
 use Rattle.std.specs.FinMap.Entries.{where_key}
@@ -63,10 +63,6 @@ held_more old now h es i d below alike q =
     ∙ ap (λ m. cond (same_holder q h) m (keys_at old q))
     (sym (fold_more (λ (set : Keys) (e : Parts × Kind). with_key set e.0 e.1) (keys_at old h) es i d below))
     ∙ sym (at_held old h (take (i + 1) es) q)
-
-pub from_ok : {A E P : Type 0} (r : Result A E) → IsOk r → OnOk r P → P
-from_ok (Ok v) is given = given
-from_ok (Err e) is given = absurd (true≢false (sym is))
 
 -- ---- who passes a test that no holder without keys passes
 module _ {X : Type 0} (test : Holder → Bool) where

@@ -102,7 +102,7 @@ impl LockTable {
             return Ok(Grant::Busy(other));
         }
         self.reserve(1)?;
-        self.put(holder, parts, kind);
+        self.add(holder, parts, kind);
         Ok(Grant::Held)
     }
 
@@ -114,7 +114,7 @@ impl LockTable {
         ensures spare { self.old.spare ≤ self.new.spare + length keys.now }
     {
         for (parts, kind) in keys {
-            self.put(holder, parts, *kind);
+            self.add(holder, parts, *kind);
         }
     }
 
@@ -277,7 +277,7 @@ impl LockTable {
     }
 
     // Adds a key to those of a holder. There is room for it.
-    fn put(&mut self, holder: Holder, parts: &Parts, kind: Kind)
+    fn add(&mut self, holder: Holder, parts: &Parts, kind: Kind)
         requires { 0 < self.old.spare }
         ensures locks { self.new.locks ≡ with_lock self.old.locks holder parts.now kind }
         ensures spare { self.old.spare ≤ self.new.spare + 1 }

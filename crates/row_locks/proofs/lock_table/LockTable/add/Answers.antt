@@ -7,7 +7,7 @@ use Rattle.row_locks.specs.Locks.{LockState, with_lock}
 use Rattle.row_locks.specs.LockTable.{IsLockTable, lock_after}
 use Rattle.row_locks.proofs.TableLemmas.{locks-granted}
 use Rattle.row_locks.proofs.LinkLemmas.{table_replaced, table_added}
-use Rattle.row_locks.proofs.lock_table.LockTable.put.Goals as goal
+use Rattle.row_locks.proofs.lock_table.LockTable.add.Goals as goal
 
 pub invariant_of-self : goal.invariant_of-self
 invariant_of-self c =
