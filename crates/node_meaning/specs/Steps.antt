@@ -30,7 +30,7 @@ pub use Rattle.trx_replay.specs.Replay.{is_certified_at, is_replaying_at, is_loc
 use Rattle.row_locks.specs.Locks.{touching_sessions}
 use Rattle.node_meaning.specs.declared.progress.Stage.{Stage}
 use Rattle.node_meaning.specs.declared.progress.Stage.TheVariants.{Started, Finished}
-use Rattle.node_meaning.specs.Node.{ModelNode, ApplyUnit, is_connected, ahead, passed_at, locks_of, set_live, end_with, taken_back}
+use Rattle.node_meaning.specs.Node.{ModelNode, ApplyUnit, is_left, is_joining, is_connected, ahead, passed_at, locks_of, set_live, end_with, taken_back}
 use Rattle.node_meaning.specs.Client.{client}
 
 -- ---- sending
@@ -236,6 +236,18 @@ advance_step order n =
     else if is_ready order n number then (answer.At number, committed_next n number)
     else (answer.NotReady number, n)
 
+-- ---- reporting
+-- a report of what is committed waits to be ordered
+abbrev pub put_report : ModelNode → ModelNode
+put_report n = record n { outbox = n.outbox ++ message.Report n.at.committed ∷ [] }
+
+-- the node reports what it has committed, where it is connected and has committed the view in which it entered
+unfoldable pub report_step : ModelNode → Answer × ModelNode
+report_step n =
+    if is_left n.at.phase then (answer.Disconnected, n)
+    else if is_joining n.at.phase || nat_lt n.at.committed n.at.view then (answer.NotSynced, n)
+    else (answer.Reported n.at.committed, put_report n)
+
 -- ---- all steps of one node
 -- a step of a node by itself: those that order events, and those of later stages, answer NOTHING here and change nothing
 abbrev pub node_step : List Event → ModelNode → Act → Answer × ModelNode
@@ -247,7 +259,7 @@ node_step order n (act.Start number) = start_step order n number
 node_step order n (act.Finish number) = finish_step n number
 node_step order n act.Advance = advance_step order n
 node_step order n act.Order = (answer.Nothing, n)
-node_step order n act.Report = (answer.Nothing, n)
+node_step order n act.Report = report_step n
 node_step order n act.Status = (answer.Nothing, n)
 node_step order n act.Drain = (answer.Nothing, n)
 node_step order n act.Leave = (answer.Nothing, n)
