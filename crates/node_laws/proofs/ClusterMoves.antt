@@ -50,7 +50,7 @@ module _ (c : ModelCluster) (i : ℕ) where
     act_moves (act.Finish number) = node_moves (act.Finish number)
     act_moves act.Advance = node_moves act.Advance
     act_moves act.Drain = drain_moves (λ n. CanStep n act.Drain)
-    act_moves act.Report = Still
+    act_moves act.Report = node_moves act.Report
     act_moves act.Status = Still
     act_moves act.Leave = Still
     act_moves (act.Join fresh) = Still

@@ -12,7 +12,7 @@ use Rattle.client_trx.specs.declared.status.Status.TheVariants as status
 use Rattle.node_meaning.specs.Node.{ModelNode}
 use Rattle.node_meaning.specs.Client.{extended}
 use Rattle.node_meaning.proofs.ClientFacts.{first}
-use Rattle.node_laws.proofs.Moves.{Kind, Pays, Works, Quiet, cost, Move, Begins, Extends, Streams, Sends, Ends, TakesBack, Unlocks, Orders, Passes, Fails, Commits, Reaches, Here, Quietly, Working, Paying}
+use Rattle.node_laws.proofs.Moves.{Kind, Pays, Works, Quiet, cost, Move, Begins, Extends, Streams, Sends, Ends, TakesBack, Unlocks, Reports, Orders, Passes, Fails, Commits, Reaches, Here, Quietly, Working, Paying}
 
 pub record Grows (k : ℕ) (n m : ModelNode) : Type 0 where
   pub member : m.at.member ≡ n.at.member
@@ -48,6 +48,9 @@ move_grows order given n c m (TakesBack s t w o there due range) =
 move_grows order given n c m (Unlocks s t to there unlocked) =
     let l = len-over numbers n.live s (with_status t to) (ap is_some there) in
     record { member = refl; begin = omega arith; serial = omega (arith, l); size = omega (arith, l) }
+move_grows order given n c m Reports =
+    let q = length-append n.outbox (message.Report n.at.committed ∷ []) in
+    record { member = refl; begin = omega arith; serial = omega arith; size = omega (arith, q) }
 move_grows order given n c m (Orders front back is) =
     let q = ap length is ∙ length-append front back in
     record { member = refl; begin = omega arith; serial = omega arith; size = omega (arith, q) }

@@ -2,6 +2,7 @@ pub mod Moves
 pub mod ClientMoves
 pub mod TakeMoves
 pub mod UnitMoves
+pub mod ReportMoves
 pub mod CertifyMoves
 pub mod AdvanceMoves
 pub mod ClusterMoves

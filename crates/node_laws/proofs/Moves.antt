@@ -26,7 +26,7 @@ use Rattle.client_trx.specs.declared.status.Status.TheVariants as status
 use Rattle.node_meaning.specs.declared.progress.Stage.TheVariants.{Started, Finished}
 use Rattle.node_meaning.specs.Node.{ModelNode, ApplyUnit, set_live, end_with, send, ahead, passed_at}
 use Rattle.node_meaning.specs.Client.{Statement, extended, met_by, refusal, send_fragment, send_commit}
-use Rattle.node_meaning.specs.Steps.{unqueued, session_of, is_local, touching_before, committer_of, is_ready}
+use Rattle.node_meaning.specs.Steps.{unqueued, session_of, is_local, touching_before, committer_of, is_ready, put_report}
 use Rattle.node_meaning.specs.Facts.{ProgressInRange, IsUndecided, own_body, sent_body}
 use Rattle.node_meaning.proofs.ClientFacts.{StatementFits, first}
 
@@ -178,6 +178,8 @@ pub data Move (order : List Event) (given : Type 0) (n : ModelNode) : Kind → M
   -- it loses its locks
   Unlocks : (s : ℕ) (t : Live) (to : Status) → get n.live s ≡ Some t → Unlocked t.status to
       → Move order given n Quiet (set_live n s (with_status t to))
+  -- a report of what is committed waits to be ordered
+  Reports : Move order given n Pays (put_report n)
   -- messages at the front of the outbox are ordered
   Orders : (front back : List Message) → n.outbox ≡ front ++ back
       → Move order given n Joint (with_ordered n front back)

@@ -29,11 +29,11 @@ use Rattle.node_meaning.specs.Facts.{InOrder, ProgressInRange, IsSendable, sets_
 use Rattle.node_meaning.proofs.EntryLaws.{entry_found, entry_missed, less_from}
 use Rattle.node_meaning.proofs.ClientFacts.{first}
 use Rattle.node_meaning.proofs.RangeLaws.{commit-decoded, fragment-decoded, rollback-decoded}
-use Rattle.node_meaning.proofs.SentLaws.{pending-sent}
+use Rattle.node_meaning.proofs.SentLaws.{pending-sent, pending-reported}
 use Rattle.node_meaning.proofs.TakeFacts.{pending_same}
 use Rattle.node_meaning.proofs.CertifyFacts.{pending_first}
 use Rattle.node_meaning.proofs.AdvanceFacts.{commits_at, stands_still, passed_by, same_begin}
-use Rattle.node_laws.proofs.Moves.{Kind, Move, Begins, Extends, Streams, Sends, Ends, TakesBack, Unlocks, Orders, Takes, Certifies, Passes, Fails, Advances, Commits, IsRunning, Unlocked, Sent, Passed, IsJudged, verdict_next, MayCertify, LeavesQueue, with_certified, with_taken}
+use Rattle.node_laws.proofs.Moves.{Kind, Move, Begins, Extends, Streams, Sends, Ends, TakesBack, Unlocks, Reports, Orders, Takes, Certifies, Passes, Fails, Advances, Commits, IsRunning, Unlocked, Sent, Passed, IsJudged, verdict_next, MayCertify, LeavesQueue, with_certified, with_taken}
 use Rattle.node_laws.proofs.Sendable.{due_is}
 use Rattle.node_laws.proofs.SetLists.{equal, unequal, all_each, of-own, of-new}
 use Rattle.node_laws.proofs.Lining.{replaced_here, ended_here, sent, sent_last, begun}
@@ -470,6 +470,8 @@ module _ (order : List Event) (n : ModelNode)
       (due_is t n.at.serial p w due) (rollback_is_sent s t there (can s t there) (range g inside))
   sent_moved given g can k m (Unlocks s t to there can_unlock) =
       same_sets n.at.begin _ (unlocked s t there to can_unlock)
+  sent_moved given g can k m Reports =
+      same_pending _ (pending-reported order n.at.member c n.at.taken n.ordered n.outbox p)
   sent_moved given g can k m (Orders front back is) = same_pending _ (orders_pending front back is)
   sent_moved given g can k m (Takes e ordered there same) =
       same_pending _ (takes_pending e ordered there same)
