@@ -17,7 +17,7 @@ use Rattle.row_locks.specs.Locks.{touching_sessions}
 use Rattle.node_meaning.specs.declared.progress.Stage.{Stage}
 use Rattle.node_meaning.specs.declared.progress.Stage.TheVariants.{Started, Finished}
 use Rattle.node_meaning.specs.Node.{ModelNode, ApplyUnit, passed_at, ahead, locks_of}
-use Rattle.node_meaning.specs.Steps.{is_started, is_started_stage, is_local, touching_before, start_after, start_unit, start_step, finish_stage, finish_unit, finish_step, is_finished, take_step, certify_step, advance_step}
+use Rattle.node_meaning.specs.Steps.{is_started, is_started_stage, is_local, touching_before, start_after, start_unit, start_step, finish_stage, finish_unit, finish_step, is_finished, take_step, certify_step, advance_step, report_step}
 use Rattle.node_meaning.specs.Client.{client}
 use Rattle.node_meaning.specs.Facts.{Facts}
 use Rattle.node_meaning.proofs.StartFacts.{kills_units}
@@ -25,6 +25,7 @@ use Rattle.node_laws.proofs.Works.{units_kept, advance_unseen}
 use Rattle.node_laws.proofs.ClientMoves.{CanCall, client_moves}
 use Rattle.node_laws.proofs.TakeMoves.{take_moves}
 use Rattle.node_laws.proofs.CertifyMoves.{certify_moves}
+use Rattle.node_laws.proofs.ReportMoves.{report_moves}
 
 -- ---- calls, taking and certifying leave the units
 module _ (order : List Event) (n : ModelNode) where
@@ -36,6 +37,9 @@ module _ (order : List Event) (n : ModelNode) where
 
   pub certify_units : (certify_step order n).1.units ≡ n.units
   certify_units = units_kept order (Unit {0}) n 0 _ (certify_moves order _ false n)
+
+  pub report_units : (report_step n).1.units ≡ n.units
+  report_units = units_kept order (Unit {0}) n 1 _ (report_moves order _ false n)
 
 -- ---- starting: the one new unit is started
 abbrev pub Starts : ℕ → Answer → ModelNode → ModelNode → Type 0

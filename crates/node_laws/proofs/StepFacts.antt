@@ -16,7 +16,7 @@ use Rattle.client_trx.specs.Live.{Live}
 use Rattle.row_locks.specs.Locks.{touching_sessions}
 use Rattle.node_meaning.specs.Node.{ModelNode, locks_of, end_live, ahead}
 use Rattle.node_meaning.specs.Client.{Statement, statement, begin_call, commit_call, rollback_call, is_pending, told_first, client}
-use Rattle.node_meaning.specs.Steps.{is_local, started, touching_before, take_step, certify_step, start_step, finish_step, advance_step, drained}
+use Rattle.node_meaning.specs.Steps.{is_local, started, touching_before, take_step, certify_step, start_step, finish_step, advance_step, report_step, drained}
 use Rattle.node_meaning.specs.Facts.{Facts, CallInRange, ProgressInRange, commit_at}
 use Rattle.node_meaning.proofs.ClientFacts.{StatementFits}
 use Rattle.node_meaning.proofs.PassedLaws.{IsPassed, passed-is, from_touching}
@@ -25,6 +25,7 @@ use Rattle.node_laws.proofs.ClientMoves.{CanCall, statement_moves, commit_moves,
 use Rattle.node_laws.proofs.TakeMoves.{take_moves}
 use Rattle.node_laws.proofs.CertifyMoves.{certify_moves}
 use Rattle.node_laws.proofs.UnitMoves.{CanTakeBack, start_moves, started_moves, finish_moves}
+use Rattle.node_laws.proofs.ReportMoves.{report_moves}
 use Rattle.node_laws.proofs.AdvanceMoves.{CanDrain, advance_moves, drained_moves}
 use Rattle.node_laws.proofs.FactsMoved.{facts_moved, facts_reached, certified_inside}
 
@@ -62,6 +63,9 @@ module _ (order : List Event) (n : ModelNode) where
 
   pub advance_keeps : Facts order n → Facts order (advance_step order n).1
   advance_keeps = reached 0 _ (advance_moves order _ n)
+
+  pub report_keeps : Facts order n → Facts order (report_step n).1
+  report_keeps = reached 1 _ (report_moves order _ true n)
 
   pub drained_keeps : CanDrain order n → Facts order n → Facts order (drained order n)
   drained_keeps can =
