@@ -32,6 +32,14 @@ of_two_returns_one_stays : line_of 1 (codes "1 take\r\r\n") ≡ Err cause.Gramma
 unfolding text_of words_of number_of counting_of node_of verb_of who_of act_of step_of is_passed_over said_of line_of
 of_two_returns_one_stays = refl
 
+reports : line_of 3 (codes "3 report\n") ≡ Ok (line.Step (record { node = 3; act = act.Report }))
+unfolding text_of words_of number_of counting_of node_of verb_of who_of act_of step_of is_passed_over said_of line_of
+reports = refl
+
+report_of_a_number : line_of 1 (codes "1 report 4") ≡ Err cause.Grammar
+unfolding text_of words_of number_of counting_of node_of verb_of who_of act_of step_of is_passed_over said_of line_of
+report_of_a_number = refl
+
 zeros_are_read : line_of 1 (codes "01.001 poll\n") ≡ Ok (line.Step (record { node = 1; act = act.Client 1 call.Poll }))
 unfolding text_of words_of number_of counting_of node_of call_of who_of act_of step_of is_passed_over said_of line_of
 zeros_are_read = refl

@@ -65,6 +65,7 @@ verb_of (verb ∷ words) =
     else if verb is "start" then option_map act.Start (only_number words)
     else if verb is "finish" then option_map act.Finish (only_number words)
     else if verb is "advance" then alone act.Advance words
+    else if verb is "report" then alone act.Report words
     else if verb is "drain" then alone act.Drain words
     else None
 

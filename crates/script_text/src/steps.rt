@@ -115,6 +115,8 @@ fn verb(words: &mut Words) -> Option<Act>
         Some(Act::Finish(only_number(words)?))
     } else if is(verb, b"advance") {
         alone(Act::Advance, words)
+    } else if is(verb, b"report") {
+        alone(Act::Report, words)
     } else if is(verb, b"drain") {
         alone(Act::Drain, words)
     } else {
