@@ -11,6 +11,7 @@ pub mod KillCalls
 pub mod NewCalls
 pub mod NodeLaws
 pub mod PutLoop
+pub mod ReportCalls
 pub mod Standing
 pub mod StartCalls
 pub mod Statements

@@ -13,6 +13,8 @@ use Rattle.node_core.specs.declared.answers.Started.{Started}
 use Rattle.node_core.specs.declared.answers.Started.TheVariants as started
 use Rattle.node_core.specs.declared.answers.Advanced.{Advanced}
 use Rattle.node_core.specs.declared.answers.Advanced.TheVariants as advanced
+use Rattle.node_core.specs.declared.answers.Reported.{Reported}
+use Rattle.node_core.specs.declared.answers.Reported.TheVariants as reported
 
 abbrev pub taken_answer : Taken → Answer
 taken_answer (taken.Took number) = answer.Took number
@@ -33,6 +35,11 @@ abbrev pub advanced_answer : Advanced → Answer
 advanced_answer (advanced.At number) = answer.At number
 advanced_answer advanced.Nothing = answer.Nothing
 advanced_answer (advanced.NotReady number) = answer.NotReady number
+
+abbrev pub reported_answer : Reported → Answer
+reported_answer (reported.Sent number) = answer.Reported number
+reported_answer reported.Disconnected = answer.Disconnected
+reported_answer reported.NotSynced = answer.NotSynced
 
 -- the task that a start gives is the unit's, with the images of the rows before it
 abbrev pub GivesTask : List Event → ℕ → Started → Type 0

@@ -1,5 +1,5 @@
 -- where a call of a node may want memory
-use Rattle.std.specs.Prelude.{◌≡◌, ℕ, Bool, true, false, List, None, IsTrue}
+use Rattle.std.specs.Prelude.{◌≡◌, ◌≤◌, ℕ, Bool, true, false, List, None, IsTrue}
 use Rattle.finite_map.specs.FiniteMap.{get}
 use Rattle.row_model.specs.declared.calls.Call.{Call}
 use Rattle.order_event.specs.declared.event.Event.{Event}
@@ -33,3 +33,7 @@ starts order n number = is_start (start_step order n number).0
 -- starting a unit, where it starts
 abbrev pub StartWants : List Event → ModelNode → ℕ → Type 0
 StartWants order n number = IsTrue (starts order n number)
+
+-- reporting, where the node is connected and has committed the view in which it entered
+abbrev pub ReportWants : ModelNode → Type 0
+ReportWants n = IsTrue (is_connected n.at.phase) × (n.at.view ≤ n.at.committed)

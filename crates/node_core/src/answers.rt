@@ -44,6 +44,17 @@ pub enum Advanced {
     NotReady(u64),
 }
 
+/// What became of a report.
+#[derive(Clone, Copy, Debug, PartialEq, Eq)]
+pub enum Reported {
+    /// A report of this number waits to be ordered.
+    Sent(u64),
+    /// The node has left.
+    Disconnected,
+    /// The node joins, or has not committed the view in which it entered.
+    NotSynced,
+}
+
 /// Where a node is.
 #[derive(Clone, Copy, Debug, PartialEq, Eq)]
 pub struct Place {

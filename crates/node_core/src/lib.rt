@@ -10,9 +10,10 @@ mod finish;
 mod node;
 mod ranges;
 mod refusal;
+mod report;
 mod start;
 mod statement;
 mod take;
 
-pub use answers::{Advanced, Certified, Place, Started, Taken};
+pub use answers::{Advanced, Certified, Place, Reported, Started, Taken};
 pub use node::Node;
