@@ -24,7 +24,7 @@ use Rattle.node_meaning.specs.Cluster.{ModelCluster, set_at, order_first, with_n
 use Rattle.node_parts.specs.Queue.{oldest}
 use Rattle.node_core.specs.declared.node.Node.{Node}
 use Rattle.node_core.specs.Answers.{is_started}
-use Rattle.node_core.specs.Memory.{CallWants, TakeWants, CertifyWants, StartWants}
+use Rattle.node_core.specs.Memory.{CallWants, TakeWants, CertifyWants, StartWants, ReportWants}
 use Rattle.node_core.specs.Stands.{DoneOver, plain_of, quietly}
 use Rattle.cluster_core.specs.declared.seat.Seat.{Seat}
 use Rattle.cluster_core.specs.Seated.{IsSeated, SeatDone, SeatDoes, SeatTakes, SeatUnchanged, work_of}
@@ -130,6 +130,9 @@ module _ (order : List Event) (old : Seat) (kept : IsKept order old) (new : Seat
   pub start_failed : (number : ℕ) → b ≡ act.Start number → ((o : List Event) → IsSeated o old → StartWants o (plain_of old.node) number)
       → Failed b order order old new e
   start_failed number same wants = failed_by (act.Start number) order old kept new u (wants order kept.seated) (λ h. h) b same e none
+
+  pub report_failed : b ≡ act.Report → ReportWants (plain_of old.node) → Failed b order order old new e
+  report_failed same wants = failed_by act.Report order old kept new u wants (λ h. h) b same e none
 
 -- ---- ordering
 none_first : (order : List Event) (nodes : List ModelNode) (i : ℕ) (n : ModelNode) (queue : List Message) → oldest queue ≡ None

@@ -19,7 +19,7 @@ use Rattle.node_meaning.specs.declared.progress.Stage.TheVariants.{Started as St
 use Rattle.node_meaning.specs.Node.{ModelNode, ApplyUnit, start_node}
 use Rattle.node_meaning.specs.Client.{client}
 use Rattle.node_meaning.specs.Units.{unit_task}
-use Rattle.node_meaning.specs.Steps.{start_step, finish_step, take_step, certify_step, advance_step, node_step}
+use Rattle.node_meaning.specs.Steps.{start_step, finish_step, take_step, certify_step, advance_step, report_step, node_step}
 use Rattle.node_core.specs.declared.node.Node.{Node}
 use Rattle.node_core.specs.declared.answers.Started.{Started}
 use Rattle.node_core.specs.declared.answers.Started.TheVariants as started
@@ -29,7 +29,7 @@ use Rattle.node_core.specs.Stands.{Stands, Unchanged, DoneOver, plain_of}
 use Rattle.node_core.proofs.NodeLaws.{unchanged_stands, stands_grow, started_task, advance_started}
 use Rattle.cluster_core.specs.declared.seat.Seat.{Seat}
 use Rattle.cluster_core.specs.Seated.{IsSeated, IsSomewhere, SeatDone, SeatUnchanged, KeepsTask, kept_at, work_of}
-use Rattle.node_laws.proofs.StartedUnits.{client_units, take_units, certify_units, Starts, start_starts, finish_done, finish_idle}
+use Rattle.node_laws.proofs.StartedUnits.{client_units, take_units, certify_units, report_units, Starts, start_starts, finish_done, finish_idle}
 
 -- ---- numbers
 bool_same : (b c : Bool) → (b ≡ true → c ≡ true) → (c ≡ true → b ≡ true) → b ≡ c
@@ -108,6 +108,12 @@ pub advance_does : (order : List Event) (old : Seat) (node : Node) (a : Answer) 
     → IsSeated order old → SeatDone order (λ n. node_step order n act.Advance) old (record old { node = node }) a
 advance_does order old node a d s =
     seat_does order (λ n. advance_step order n) old node a d (advance_started order old.node s.stands) s
+
+pub report_does : (order : List Event) (old : Seat) (node : Node) (a : Answer) → DoneOver order (λ n. report_step n) old.node node a
+    → IsSeated order old → SeatDone order (λ n. node_step order n act.Report) old (record old { node = node }) a
+report_does order old node a d s =
+    seat_does order (λ n. report_step n) old node a d
+    (λ k. at_number k (report_step (plain_of old.node)).1 (plain_of old.node) (report_units order (plain_of old.node))) s
 
 -- ---- more room for work, which leaves all as it was
 pub roomy : (old new : Seat) → new.node ≡ old.node → ((k : ℕ) → kept_at new.done.entries k ≡ kept_at old.done.entries k) → SeatUnchanged old new

@@ -6,7 +6,7 @@ use Rattle.order_event.specs.declared.step.Act.TheVariants as act
 use Rattle.node_meaning.specs.Node.{ModelNode, is_connected}
 use Rattle.node_meaning.specs.Cluster.{ModelCluster}
 use Rattle.node_laws.specs.Drains.{StoppedAt}
-use Rattle.node_core.specs.Memory.{CallWants, TakeWants, CertifyWants, StartWants}
+use Rattle.node_core.specs.Memory.{CallWants, TakeWants, CertifyWants, StartWants, ReportWants}
 use Rattle.cluster_core.specs.declared.fault.StepFault.{StepFault}
 use Rattle.cluster_core.specs.declared.fault.StepFault.TheVariants as fault
 
@@ -29,6 +29,7 @@ Wants order n act.Order = 0 < length n.outbox
 Wants order n act.Take = TakeWants n × (n.at.taken < length order)
 Wants order n act.Certify = CertifyWants n
 Wants order n (act.Start number) = StartWants order n number
+Wants order n act.Report = ReportWants n
 Wants order n other = ⊥
 
 abbrev pub MayFail : List Event → ModelNode → Act → StepFault → Type 0

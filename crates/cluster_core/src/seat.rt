@@ -1,7 +1,7 @@
 ghost use Rattle.std.specs.Prelude.{◌≡◌, ◌≢◌, ◌≤◌, ◌<◌, ◌^◌, List, IfOk, OnOk, OnErr, IsTrue};
 
 use apply_unit::Done;
-use node_core::{Advanced, Certified, Node, Started, Taken};
+use node_core::{Advanced, Certified, Node, Reported, Started, Taken};
 use order_event::{Answer, Event};
 use row_model::Call;
 use std::alloc::Global;
@@ -25,7 +25,7 @@ impl Seat {
     ghost use Rattle.node_meaning.specs.Node.{start_node};
     ghost use Rattle.node_meaning.specs.Steps.{node_step};
     ghost use Rattle.node_core.specs.Stands.{plain_of};
-    ghost use Rattle.node_core.specs.Memory.{CallWants, TakeWants, CertifyWants, StartWants};
+    ghost use Rattle.node_core.specs.Memory.{CallWants, TakeWants, CertifyWants, StartWants, ReportWants};
     ghost use Rattle.node_laws.specs.Given.{CanGoOn};
     ghost use Rattle.cluster_core.specs.Seated.{IsSeated, IsSomewhere, SeatDoes, SeatTakes, SeatUnchanged};
     ghost use Rattle.std.specs.HashMap.{spare};
@@ -139,10 +139,22 @@ impl Seat {
     {
         advanced_answer(self.node.advance())
     }
+
+    /// What the node has committed is reported.
+    pub(crate) fn report(&mut self) -> Result<Answer, NoMemory>
+        requires seated { IsSomewhere self.old }
+        ensures ok { IfOk result
+            (SeatDoes (λ order n. node_step order n act.Report) self.old self.new) }
+        ensures err { OnErr result (SeatUnchanged self.old self.new) }
+        ensures memory { OnErr result (ReportWants (plain_of self.old.node)) }
+    {
+        let reported = self.node.report()?;
+        Ok(reported_answer(reported))
+    }
 }
 
 ghost use Rattle.std.specs.HashMap.{spare};
-ghost use Rattle.node_core.specs.Answers.{taken_answer, certified_answer, started_answer, advanced_answer};
+ghost use Rattle.node_core.specs.Answers.{taken_answer, certified_answer, started_answer, advanced_answer, reported_answer};
 ghost use Rattle.node_core.specs.Memory.{is_start};
 ghost use Rattle.cluster_core.specs.Seated.{KeepsTask};
 
@@ -172,6 +184,16 @@ fn advanced_answer(advanced: Advanced) -> Answer
         Advanced::At(number) => Answer::At(number),
         Advanced::Nothing => Answer::Nothing,
         Advanced::NotReady(number) => Answer::NotReady(number),
+    }
+}
+
+fn reported_answer(reported: Reported) -> Answer
+    ensures { result ≡ reported_answer reported }
+{
+    match reported {
+        Reported::Sent(number) => Answer::Reported(number),
+        Reported::Disconnected => Answer::Disconnected,
+        Reported::NotSynced => Answer::NotSynced,
     }
 }
 

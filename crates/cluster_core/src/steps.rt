@@ -59,7 +59,7 @@ pub(crate) fn step_on<G: Group>(
         Act::Finish(number) => Ok(seat.finish(*number)),
         Act::Advance => Ok(seat.advance()),
         Act::Drain => drain(seat, group),
-        Act::Report => Ok(Answer::Nothing),
+        Act::Report => Ok(seat.report()?),
         Act::Status => Ok(Answer::Nothing),
         Act::Leave => Ok(Answer::Nothing),
         Act::Join(_) => Ok(Answer::Nothing),

@@ -2,12 +2,8 @@
 use Rattle.std.proofs.Common.{◌≡◌, refl}
 use Rattle.order_event.specs.declared.step.Act.TheVariants as act
 use Rattle.cluster_core.specs.declared.fault.StepFault.TheVariants as fault
-use Rattle.cluster_core.proofs.ActLaws.{acted_nothing, err_by, client_failed, certify_failed, start_failed}
+use Rattle.cluster_core.proofs.ActLaws.{acted_nothing, err_by, client_failed, certify_failed, start_failed, report_failed}
 use Rattle.cluster_core.proofs.steps.step_on.Goals as goal
-
-pub returns-in-Report-clause-ok : goal.returns-in-Report-clause-ok
-returns-in-Report-clause-ok g c =
-    rw c.in-Report.is (acted_nothing act.Report (g.G.Group.order c.args.group.now) c.args.seat.now c.requires.kept (λ _ _ _. refl))
 
 pub returns-in-Status-clause-ok : goal.returns-in-Status-clause-ok
 returns-in-Status-clause-ok g c =
@@ -45,3 +41,10 @@ returns-in_err-start-in-Start-clause-err g c =
     let none : e ≡ fault.NoMemory = cc in
     start_failed (g.G.Group.order c.args.group.now) c.args.seat.now c.requires.kept c.start.new.self c.in_err-start-in-Start.ensures.err
     c.args.act.now e none _ c.in-Start.is c.in_err-start-in-Start.ensures.memory)
+
+pub returns-in_err-report-in-Report-clause-err : goal.returns-in_err-report-in-Report-clause-err
+returns-in_err-report-in-Report-clause-err g c =
+    err_by _ _ c.from_residual-in_err-report-in-Report.result c.from_residual-in_err-report-in-Report.ensures.1 (λ e from.
+    let none : e ≡ fault.NoMemory = cc in
+    report_failed (g.G.Group.order c.args.group.now) c.args.seat.now c.requires.kept c.report.new.self c.in_err-report-in-Report.ensures.err
+    c.args.act.now e none c.in-Report.is c.in_err-report-in-Report.ensures.memory)

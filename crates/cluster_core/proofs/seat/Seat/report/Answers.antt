@@ -1,0 +1,14 @@
+-- The node's call is the seat's.
+use Rattle.std.proofs.Common.{refl}
+use Rattle.cluster_core.proofs.SeatLaws.{unchanged, report_does, on_err}
+use Rattle.cluster_core.proofs.seat.Seat.report.Goals as goal
+
+pub returns-in_err-reported-clause-err : goal.returns-in_err-reported-clause-err
+returns-in_err-reported-clause-err c =
+    on_err c.from_residual.result
+    (unchanged c.args.self.now (record c.args.self.now { node = c.report.new.self }) c.in_err-reported.ensures.err (λ k. refl))
+
+pub returns-clause-ok : goal.returns-clause-ok
+returns-clause-ok c order s =
+    rw c.reported_answer.ensures
+    (report_does order c.args.self.now c.report.new.self _ (c.in_ok-reported.ensures.ok order s.stands) s)
