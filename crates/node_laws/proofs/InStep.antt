@@ -82,7 +82,7 @@ own_message member (message.Write body) = ap (λ b. cond b (Some (message.Write 
 own_message member (message.Report number) =
     ap (λ b. cond b (Some (message.Report number)) None) (eq-eqb member member refl)
 
-own_messages : (member : ℕ) (ms : List Message) → filter_map (message_of member) (map (event_of member) ms) ≡ ms
+pub own_messages : (member : ℕ) (ms : List Message) → filter_map (message_of member) (map (event_of member) ms) ≡ ms
 own_messages member [] = refl
 own_messages member (m ∷ ms) =
     ap (λ o. cons_option o (filter_map (message_of member) (map (event_of member) ms))) (own_message member m)
