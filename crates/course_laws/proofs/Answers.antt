@@ -1,6 +1,6 @@
 -- Only a take could answer SPLIT, and none does: so no step of a run answers it.
 use Rattle.std.proofs.Common.{◌≡◌, ℕ, ◌+◌, ◌-◌, ◌<◌, ◌^◌, Bool, true, false, cond, List, [], ◌∷◌, ◌++◌, length, Option, Some, None, refl, ap, sym, subst, ◌∙◌, arith, length-append, true≢false}
-use Rattle.std.specs.Prelude.{◌==◌, slice_get, is_some}
+use Rattle.std.specs.Prelude.{◌==◌, ◌||◌, nat_lt, slice_get, is_some}
 use Rattle.std.specs.List.{AllByRecursion}
 use Rattle.finite_map.specs.FiniteMap.{get}
 use Rattle.wsrep_base.specs.Trx.{greatest}
@@ -14,8 +14,8 @@ use Rattle.order_event.specs.declared.step.Step.{Step}
 use Rattle.cert_meaning.specs.declared.items.CommitItem.{CommitItem}
 use Rattle.node_meaning.specs.declared.progress.Stage.{Stage}
 use Rattle.node_meaning.specs.declared.progress.Stage.TheVariants.{Started, Finished}
-use Rattle.node_meaning.specs.Node.{ModelNode, ApplyUnit, ahead, passed_at}
-use Rattle.node_meaning.specs.Steps.{is_local, touching_before, certify_event, certify_step, start_after, start_unit, start_step, finish_stage, finish_unit, finish_step, is_ready, committed_next, advance_step}
+use Rattle.node_meaning.specs.Node.{ModelNode, ApplyUnit, is_left, is_joining, ahead, passed_at}
+use Rattle.node_meaning.specs.Steps.{is_local, touching_before, certify_event, certify_step, start_after, start_unit, start_step, finish_stage, finish_unit, finish_step, is_ready, committed_next, advance_step, put_report, report_step}
 use Rattle.node_meaning.specs.Cluster.{ModelCluster, start_cluster, order_first, step_of, step_at, cluster_step, run}
 use Rattle.node_laws.proofs.ClusterLaws.{ActFits}
 use Rattle.node_laws.proofs.SetLists.{all_push}
@@ -82,6 +82,13 @@ module _ (order : List Event) (n : ModelNode) where
       (either_by (is_ready order n (n.at.committed + 1)) (answer.At number, committed_next n number)
       (answer.NotReady number, n) refl refl)
 
+report_whole : (n : ModelNode) → is_split (report_step n).0 ≡ false
+unfolding report_step
+report_whole n =
+    either_by [] n (is_left n.at.phase) (answer.Disconnected, n) _ refl
+    (either_by [] n (is_joining n.at.phase || nat_lt n.at.committed n.at.view)
+    (answer.NotSynced, n) (answer.Reported n.at.committed, put_report n) refl refl)
+
 -- ---- a step of the cluster
 
 not_split : (a : Answer) → is_split a ≡ false → a ≡ answer.Split → ⊥
@@ -101,7 +108,7 @@ module _ (c : ModelCluster) (i : ℕ) (n : ModelNode) (whole : NoSplit c.order n
   step_whole (act.Finish number) = not_split _ (finish_whole c.order n number)
   step_whole act.Advance = not_split _ (advance_whole c.order n)
   step_whole act.Drain = not_split _ refl
-  step_whole act.Report = not_split _ refl
+  step_whole act.Report = not_split _ (report_whole n)
   step_whole act.Status = not_split _ refl
   step_whole act.Leave = not_split _ refl
   step_whole (act.Join fresh) = not_split _ refl

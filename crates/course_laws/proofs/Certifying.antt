@@ -1,8 +1,9 @@
 -- Certifying the next event keeps what holds over the order so far, whatever it does to the
 -- transaction that sent it; the verdict on the node's own is one that a cluster gives.
 use Rattle.std.proofs.Common.{◌≡◌, ℕ, ◌+◌, ◌≤◌, ◌<◌, Bool, true, false, cond, List, [], ◌∷◌, length, Option, Some, None, refl, ap, sym, subst, ◌∙◌, arith, eq-eqb, true≢false}
-use Rattle.std.specs.Prelude.{◌==◌, slice_get}
+use Rattle.std.specs.Prelude.{◌==◌, max, slice_get}
 use Rattle.std.specs.List.{filter_map, cons_option, list_any}
+use Rattle.std.specs.Option.{option_map}
 use Rattle.std.specs.Ordering.{nat_cmp, eq_by_cmp}
 use Rattle.std.proofs.lemmas.Option.{same_Some}
 use Rattle.finite_map.specs.FiniteMap.{FiniteMap, get, insert, remove}
@@ -11,8 +12,10 @@ use Rattle.wsrep_base.specs.declared.ids.TrxId.{TrxId}
 use Rattle.wsrep_base.specs.declared.verdict.Verdict.TheVariants as verdict
 use Rattle.order_event.specs.declared.event.Event.{Event}
 use Rattle.order_event.specs.declared.event.Event.TheVariants as event
+use Rattle.order_event.specs.declared.event.Message.TheVariants as message
 use Rattle.write_set.specs.declared.write_set.WriteSet.{WriteSet}
 use Rattle.write_set.specs.Reading.{decoded}
+use Rattle.cert_meaning.specs.declared.members.Standing.{Standing}
 use Rattle.cert_meaning.specs.State.{FoldState}
 use Rattle.cert_meaning.specs.Verdict as rules
 use Rattle.cert_meaning.specs.Verdict.{trx_of}
@@ -29,13 +32,14 @@ use Rattle.node_laws.proofs.Moves.{IsJudged, verdict_next, MayCertify, with_cert
 use Rattle.node_laws.proofs.SetLists.{equal, unequal, of-first}
 use Rattle.node_laws.proofs.Lining.{elsewhere}
 use Rattle.node_laws.proofs.Heads.{head_waits}
+use Rattle.node_laws.proofs.InStep.{message_of}
 use Rattle.node_laws.proofs.SentMoved.{certifies_pending}
 use Rattle.course_laws.specs.Laws.{IsByConflict}
-use Rattle.course_laws.specs.Ordered.{pending_sets, HasSent, GoesOn, Entered, OrderedFacts, Keeps}
-use Rattle.course_laws.proofs.Members.{IsApart, member_foreign, member_view, member_report_foreign}
-use Rattle.course_laws.proofs.Placing.{conflict_not}
+use Rattle.course_laws.specs.Ordered.{pending_sets, seen_ahead, Rises, HasSent, GoesOn, Entered, OrderedFacts, Keeps}
+use Rattle.course_laws.proofs.Members.{IsApart, member_foreign, member_view, member_report_foreign, member_reported}
+use Rattle.course_laws.proofs.Placing.{conflict_not, rises_lower}
 use Rattle.course_laws.proofs.NextEvent.{beside_entered, head_decided, other_goes, fragment_sent_passed, head_entered}
-use Rattle.course_laws.proofs.PendingSets.{sets_lined, within_order, OwnNext, own_next}
+use Rattle.course_laws.proofs.PendingSets.{seen_next, sets_lined, within_order, OwnNext, own_next}
 
 -- the one that stands alone is the first
 first_alone : (P : WriteSet → Type 0) (failed : Type 0) (mine left : List WriteSet) (w : WriteSet)
@@ -63,6 +67,9 @@ module _ (order : List Event) (n : ModelNode) (f : Facts order n) (h : OrderedFa
   abbrev left_sets : List WriteSet
   left_sets = pending_sets order (with_certified n)
 
+  abbrev left_seen : List ℕ
+  left_seen = seen_ahead order (with_certified n)
+
   inside : c < length order
   inside =
       let below = less_from c n.at.taken f.in_order.certified_fits more in
@@ -74,8 +81,9 @@ module _ (order : List Event) (n : ModelNode) (f : Facts order n) (h : OrderedFa
 
   -- ---- an event that is none of the member's write sets
   module _ (e : Event) (there : slice_get order c ≡ Some e) (none : own_body m e ≡ None)
-      (apart : (trx : TrxId) → trx.member ≡ m → IsApart e trx)
-      (stays : get (after s e).members m ≡ Some h.standing) where
+      (apart : (trx : TrxId) → trx.member ≡ m → IsApart e trx) (now : Standing)
+      (stands : get (after s e).members m ≡ Some now) (same : now.serial ≡ h.standing.serial)
+      (rises : Rises now.report left_seen (max p n.at.view)) where
     same_sets : pending_sets order n ≡ left_sets
     same_sets = ap (filter_map decoded) (certifies_pending order n f.in_order f.sent more e there
         ∙ ap (λ o. cons_option o (pending order (with_certified n))) none)
@@ -83,11 +91,35 @@ module _ (order : List Event) (n : ModelNode) (f : Facts order n) (h : OrderedFa
     pub beside_certified : OrderedFacts order (with_certified n)
     beside_certified =
         let l = sets_lined order n f in
-        subst (λ r. Entered r m n.at.view n.at.begin n.at.serial p n.live left_sets)
+        subst (λ r. Entered r m n.at.view n.at.begin n.at.serial p n.live left_sets left_seen)
         (sym (state_at-next order c e there))
-        (subst (Entered (after s e) m n.at.view n.at.begin n.at.serial p n.live) same_sets
-        (beside_entered s e m n.at.view n.at.begin n.at.serial p n.live (pending_sets order n) h
-        apart stays (λ se t is. (l.each se t is).of_member) l.ours))
+        (subst (λ sets. Entered (after s e) m n.at.view n.at.begin n.at.serial p n.live sets
+        left_seen) same_sets
+        (beside_entered s e m n.at.view n.at.begin n.at.serial p n.live (pending_sets order n)
+        (seen_ahead order n) left_seen h apart now stands same rises
+        (λ se t is. (l.each se t is).of_member) l.ours))
+
+  -- it is none of the member's messages, and leaves it as it was
+  pub foreign_certified : (e : Event) → slice_get order c ≡ Some e → own_body m e ≡ None
+      → message_of m e ≡ None → ((trx : TrxId) → trx.member ≡ m → IsApart e trx)
+      → get (after s e).members m ≡ Some h.standing → OrderedFacts order (with_certified n)
+  foreign_certified e there none no_message apart stays =
+      beside_certified e there none apart h.standing stays refl
+      (subst (λ seen. Rises h.standing.report seen (max p n.at.view))
+      (seen_next order n e None there no_message) h.rises)
+
+  -- it is the member's report, which is not below the one before
+  pub report_certified : (number : ℕ) → slice_get order c ≡ Some (event.Report m number)
+      → OrderedFacts order (with_certified n)
+  report_certified number there =
+      let e = event.Report m number in
+      let rises : Rises h.standing.report (number ∷ left_seen) (max p n.at.view) =
+      subst (λ seen. Rises h.standing.report seen (max p n.at.view))
+      (seen_next order n e (Some (message.Report number)) there
+      (ap (λ b. cond b (Some (message.Report number)) None) (eq-eqb m m refl))) h.rises in
+      let after_it = member_reported s m number h.standing h.is_member rises.0 in
+      beside_certified e there refl (λ trx member. tt) after_it.now after_it.stands after_it.serial
+      (rises_lower after_it.now.report number left_seen (max p n.at.view) after_it.report rises.1)
 
   -- ---- the member's own write set
   module _ (body : List ℕ) (there : slice_get order c ≡ Some (event.Write m body)) where
@@ -100,32 +132,43 @@ module _ (order : List Event) (n : ModelNode) (f : Facts order n) (h : OrderedFa
     l : Lined order m n.at.begin n.at.serial p c n.live (w ∷ left_sets)
     l = subst (Lined order m n.at.begin n.at.serial p c n.live) own.sets_are (sets_lined order n f)
 
+    seen_is : seen_ahead order n ≡ w.last_seen ∷ left_seen
+    seen_is =
+        seen_next order n (event.Write m body) (Some (message.Write body)) there
+        (ap (λ b. cond b (Some (message.Write body)) None) (eq-eqb m m refl))
+        ∙ ap (λ o. cons_option (option_map (λ (x : WriteSet). x.last_seen) o) left_seen) own.read
+
     ahead : Entered s m n.at.view n.at.begin n.at.serial p n.live (w ∷ left_sets)
-    ahead = subst (Entered s m n.at.view n.at.begin n.at.serial p n.live) own.sets_are h
+        (w.last_seen ∷ left_seen)
+    ahead =
+        subst (Entered s m n.at.view n.at.begin n.at.serial p n.live (w ∷ left_sets)) seen_is
+        (subst (λ sets. Entered s m n.at.view n.at.begin n.at.serial p n.live sets
+        (seen_ahead order n)) own.sets_are h)
 
     -- it is decided
     pub own_decided : (x : WriteSet) → decoded body ≡ Some x → IsByConflict (verdict_next order n x)
     own_decided x is =
         subst (λ y. IsByConflict (verdict_next order n y)) (same_Some w x (sym own.read ∙ is))
-        (head_decided s m n.at.view n.at.begin n.at.serial p n.live w left_sets ahead l.ours body
-        own.read behind)
+        (head_decided s m n.at.view n.at.begin n.at.serial p n.live w left_sets left_seen ahead
+        l.ours body own.read behind)
 
     abbrev next : FoldState
     next = after s (event.Write m body)
 
     others : (t : Live) → w.begin == t.trx.begin ≡ false → GoesOn s n.at.view p t
         → GoesOn next n.at.view p t
-    others = other_goes s m n.at.view n.at.begin n.at.serial p n.live w left_sets ahead l.ours body
-        own.read behind
+    others = other_goes s m n.at.view n.at.begin n.at.serial p n.live w left_sets left_seen ahead
+        l.ours body own.read behind
 
     now_entered : (now : FiniteMap nat_cmp Live)
         → ((se : ℕ) (t : Live) → get now se ≡ Some t → GoesOn next n.at.view p t)
         → Entered (state_at order (c + 1)) m n.at.view n.at.begin n.at.serial p now left_sets
+        left_seen
     now_entered now each =
-        subst (λ r. Entered r m n.at.view n.at.begin n.at.serial p now left_sets)
+        subst (λ r. Entered r m n.at.view n.at.begin n.at.serial p now left_sets left_seen)
         (sym (state_at-next order c (event.Write m body) there))
-        (head_entered s m n.at.view n.at.begin n.at.serial p n.live w left_sets ahead l.ours body
-        own.read behind now each)
+        (head_entered s m n.at.view n.at.begin n.at.serial p n.live w left_sets left_seen ahead
+        l.ours body own.read behind now each)
 
     -- of a live transaction
     module _ (se : ℕ) (t : Live) (is : get n.live se ≡ Some t) (begin : t.trx.begin ≡ w.begin) where
@@ -142,7 +185,7 @@ module _ (order : List Event) (n : ModelNode) (f : Facts order n) (h : OrderedFa
 
       -- it ends
       pub failed_entered : Entered (state_at order (c + 1)) m n.at.view n.at.begin n.at.serial p
-          (remove n.live se) left_sets
+          (remove n.live se) left_sets left_seen
       failed_entered = now_entered (remove n.live se) (λ o u at.
           let was = left numbers n.live se o u at in beside o u was.elsewhere was.there)
 
@@ -168,9 +211,9 @@ module _ (order : List Event) (n : ModelNode) (f : Facts order n) (h : OrderedFa
             → HasSent next p (with_status t (passed_status (c + 1) st))
         running_sent status.Running now sent running = absurd (true≢false (sym sent))
         running_sent status.FragmentSent now sent running =
-            fragment_sent_passed s m n.at.view n.at.begin n.at.serial p n.live w left_sets ahead
-            l.ours body own.read behind t (with_status t status.Running) pass of_trx (fragment now)
-            refl refl
+            fragment_sent_passed s m n.at.view n.at.begin n.at.serial p n.live w left_sets left_seen
+            ahead l.ours body own.read behind t (with_status t status.Running) pass of_trx
+            (fragment now) refl refl
         running_sent status.CommitSent now sent running = cc
         running_sent (status.Certified k) now sent running = cc
         running_sent status.KilledSent now sent running = cc
@@ -189,7 +232,7 @@ module _ (order : List Event) (n : ModelNode) (f : Facts order n) (h : OrderedFa
         each_by o u (Elsewhere differs at) = beside o u differs at
 
         pub passed_entered : Entered (state_at order (c + 1)) m n.at.view n.at.begin n.at.serial p
-            (insert n.live se passed) left_sets
+            (insert n.live se passed) left_sets left_seen
         passed_entered = now_entered (insert n.live se passed)
             (λ o u at. each_by o u (inserted numbers n.live se passed o u at))
 
@@ -233,11 +276,23 @@ module _ (order : List Event) (n : ModelNode) (f : Facts order n) (h : OrderedFa
       (may.next ∙ ap (λ k. Some (event.Write k body)) same)
       (subst (λ k. MayCertify order n (event.Write k body)) same may)
   write_certified sender body false is may =
-      beside_certified order n f h may.more (event.Write sender body) may.next
+      foreign_certified order n f h may.more (event.Write sender body) may.next
       (ap (λ b. cond b (Some body) None) is)
+      (ap (λ b. cond b (Some (message.Write body)) None) is)
       (λ trx member w read from of_trx.
       true≢false (sym (eq-eqb sender n.at.member (from ∙ member)) ∙ is))
       (member_foreign (state_at order n.at.certified) sender body n.at.member
+      (other_number sender is) ∙ h.is_member)
+
+  report_by : (sender number : ℕ) (own : Bool) → sender == n.at.member ≡ own
+      → MayCertify order n (event.Report sender number) → OrderedFacts order (with_certified n)
+  report_by sender number true is may =
+      report_certified order n f h may.more number
+      (may.next ∙ ap (λ k. Some (event.Report k number)) (equal sender n.at.member is))
+  report_by sender number false is may =
+      foreign_certified order n f h may.more (event.Report sender number) may.next refl
+      (ap (λ b. cond b (Some (message.Report number)) None) is) (λ trx member. tt)
+      (member_report_foreign (state_at order n.at.certified) sender number n.at.member
       (other_number sender is) ∙ h.is_member)
 
   pub certified_ordered : (e : Event) → MayCertify order n e → Keeps n.at.member e
@@ -245,15 +300,12 @@ module _ (order : List Event) (n : ModelNode) (f : Facts order n) (h : OrderedFa
   certified_ordered (event.Write sender body) may keeps =
       write_certified sender body (sender == n.at.member) refl may
   certified_ordered (event.View version members) may keeps =
-      beside_certified order n f h may.more (event.View version members) may.next refl
+      foreign_certified order n f h may.more (event.View version members) may.next refl refl
       (λ trx member. ap (λ k. list_any (λ j. j == k) members) member ∙ keeps)
       (member_view (state_at order n.at.certified) version members n.at.member h.standing keeps
       h.is_member)
   certified_ordered (event.Report sender number) may keeps =
-      beside_certified order n f h may.more (event.Report sender number) may.next refl
-      (λ trx member. tt)
-      (member_report_foreign (state_at order n.at.certified) sender number n.at.member
-      (other_number sender keeps) ∙ h.is_member)
+      report_by sender number (sender == n.at.member) refl may
 
   -- the write set that is judged is the first
   begin_of : (se : ℕ) (t : Live) (body : List ℕ) (w : WriteSet)
@@ -269,7 +321,7 @@ module _ (order : List Event) (n : ModelNode) (f : Facts order n) (h : OrderedFa
       → Entered (state_at order (n.at.certified + 1)) n.at.member n.at.view n.at.begin n.at.serial
       n.at.committed
       (insert n.live se (with_status t (passed_status (n.at.certified + 1) t.status)))
-      (pending_sets order (with_certified n))
+      (pending_sets order (with_certified n)) (seen_ahead order (with_certified n))
   passes_ordered se t body w judged pass =
       let own = own_next order n f body judged.more judged.next in
       passed_entered order n f h judged.more body judged.next se t judged.there
@@ -280,6 +332,7 @@ module _ (order : List Event) (n : ModelNode) (f : Facts order n) (h : OrderedFa
       → IsJudged order n se t body w
       → Entered (state_at order (n.at.certified + 1)) n.at.member n.at.view n.at.begin n.at.serial
       n.at.committed (remove n.live se) (pending_sets order (with_certified n))
+      (seen_ahead order (with_certified n))
   fails_ordered se t body w judged =
       failed_entered order n f h judged.more body judged.next se t judged.there
       (begin_of se t body w judged)

@@ -20,7 +20,7 @@ use Rattle.client_trx.specs.Live.{Live, is_sent}
 use Rattle.client_trx.specs.declared.status.Status.{Status}
 use Rattle.client_trx.specs.declared.status.Status.TheVariants as status
 use Rattle.node_meaning.specs.Node.{ModelNode, start_node}
-use Rattle.node_meaning.specs.Steps.{first_sent, node_step, drained, take_step, certify_step, start_step, finish_step, advance_step}
+use Rattle.node_meaning.specs.Steps.{first_sent, node_step, drained, take_step, certify_step, start_step, finish_step, advance_step, report_step}
 use Rattle.node_meaning.specs.Client.{client}
 use Rattle.node_meaning.specs.Facts.{ProgressInRange, IsUndecided, HasFailed, Alone, One, Lost, StandsBy, IsFragmentOf, IsCommitOf, sets_of}
 use Rattle.node_meaning.proofs.EntryLaws.{some_not_none}
@@ -30,6 +30,7 @@ use Rattle.node_laws.proofs.ClientMoves.{CanCall, client_moves}
 use Rattle.node_laws.proofs.TakeMoves.{take_moves}
 use Rattle.node_laws.proofs.CertifyMoves.{certify_moves}
 use Rattle.node_laws.proofs.UnitMoves.{CanTakeBack, start_moves, finish_moves}
+use Rattle.node_laws.proofs.ReportMoves.{report_moves}
 use Rattle.node_laws.proofs.AdvanceMoves.{CanDrain, advance_moves, drained_moves}
 use Rattle.node_laws.proofs.Counts.{Grows, reach_grows}
 use Rattle.node_laws.proofs.ClusterLaws.{ActFits}
@@ -40,7 +41,7 @@ use Rattle.course_laws.proofs.Placing.{conflict_not}
 use Rattle.course_laws.proofs.PendingSets.{sets_lined, within_order}
 use Rattle.course_laws.proofs.Taking.{no_split}
 use Rattle.course_laws.proofs.Ahead.{write_not_view}
-use Rattle.course_laws.proofs.Following.{IsWriteSet, Follows, AllKeep, still_follows, client_follows}
+use Rattle.course_laws.proofs.Following.{Follows, AllKeep, still_follows, client_follows, report_follows}
 use Rattle.course_laws.proofs.Growing.{others_all_keep, others_follows, own_all_keep, own_follows, decided_grown}
 
 -- what is kept of a node that made fewer than so many steps
@@ -125,7 +126,10 @@ module _ (member most : ℕ) (small : member < 2 ^ 32) (few : most ≤ 2 ^ 63) w
         by_row (Unit {0}) tt (advance_step order n).1 (advance_moves order _ n)
     step_kept act.Order fits = same_kept
     step_kept act.Drain fits = same_kept
-    step_kept act.Report fits = same_kept
+    step_kept act.Report fits =
+        moved (report_step n).1
+        (reach_grows order (Unit {0}) true n 1 (report_step n).1
+        (report_moves order (Unit {0}) true n)) (report_follows order member h.keeps n h.follows)
     step_kept act.Status fits = same_kept
     step_kept act.Leave fits = same_kept
     step_kept (act.Join fresh) fits = same_kept
@@ -151,9 +155,8 @@ module _ (member most : ℕ) (small : member < 2 ^ 32) (few : most ≤ 2 ^ 63) w
     own_kept : (front back : List Message) → n.outbox ≡ front ++ back
         → Kept member (most + 1) (order ++ map (event_of member) front) (with_ordered n front back)
     own_kept front back is =
-        let writes = subst (AllByRecursion IsWriteSet) is h.follows.writes in
-        let keeps = own_all_keep order member front back writes h.keeps in
-        let follows = own_follows order member n front back is h.keeps h.follows in record {
+        let keeps = own_all_keep order member front h.keeps in
+        let follows = own_follows order member n front back is h.follows in record {
           follows = follows;
           keeps = keeps;
           decided = decided_grown order (map (event_of member) front) member
@@ -320,13 +323,13 @@ module _ (nodes member : ℕ) (id : List ℕ)
       connected = refl;
       facts = start_facts (start_order nodes) id member;
       in_step = refl;
-      writes = tt;
       stage = Early (record {
         none = refl;
         first = refl;
         positive = omega arith;
         idle = λ se t there. some_not_none t _ there (get-empty nat_cmp se);
         nothing = refl;
+        unseen = refl;
         version = 1;
         members = up_to nodes;
         opens = refl;

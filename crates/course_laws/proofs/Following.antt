@@ -1,32 +1,26 @@
 -- Rows of moves keep what holds of a node over the order so far, and a client call is such a row.
-use Rattle.std.proofs.Common.{◌≡◌, ℕ, ◌≤◌, Bool, true, false, List, [], ◌∷◌, ◌++◌, Option, Some, None, refl, sym, subst, ◌∙◌, arith, ltb-false, true≢false}
+use Rattle.std.proofs.Common.{◌≡◌, ℕ, ◌≤◌, Bool, true, false, List, Option, Some, None, refl, sym, subst, ◌∙◌, arith, ltb-false, true≢false}
 use Rattle.std.specs.Prelude.{◌||◌, slice_get, nat_lt}
-use Rattle.std.specs.List.{AllByRecursion}
 use Rattle.finite_map.specs.FiniteMap.{get}
 use Rattle.row_model.specs.declared.calls.Call.{Call}
 use Rattle.row_model.specs.declared.calls.Reply.{Reply}
 use Rattle.row_model.specs.declared.calls.Reply.TheVariants as reply
 use Rattle.order_event.specs.declared.event.Event.{Event}
-use Rattle.order_event.specs.declared.event.Message.{Message}
-use Rattle.order_event.specs.declared.event.Message.TheVariants as message
+use Rattle.order_event.specs.declared.step.Answer.TheVariants as answer
 use Rattle.client_trx.specs.Live.{Live}
 use Rattle.node_meaning.specs.declared.progress.Phase.TheVariants as phase
 use Rattle.node_meaning.specs.Node.{ModelNode, is_left, is_joining}
 use Rattle.node_meaning.specs.Client.{is_pending, served, asked, told_first, client}
+use Rattle.node_meaning.specs.Steps.{put_report, report_step}
 use Rattle.node_meaning.specs.Facts.{Facts}
-use Rattle.node_laws.proofs.Moves.{Kind, Pays, Works, Quiet, Move, Tells, Streams, Sends, TakesBack, Orders, Advances, Commits, May, Reaches, Here, Quietly, Working, one, chosen, kept}
+use Rattle.node_laws.proofs.Moves.{Kind, Pays, Works, Quiet, Move, Tells, Advances, Commits, May, Reaches, Here, Quietly, Working, one, chosen, kept}
 use Rattle.node_laws.proofs.ClientMoves.{CanCall, client_moves}
+use Rattle.node_laws.proofs.ReportMoves.{report_moves}
 use Rattle.node_laws.proofs.Counts.{move_grows}
-use Rattle.node_laws.proofs.SetLists.{all_push}
 use Rattle.node_laws.proofs.FactsMoved.{facts_moved}
 use Rattle.node_laws.proofs.InStep.{IsInStep, in_step_moved}
 use Rattle.course_laws.specs.Ordered.{Keeps, Stage}
 use Rattle.course_laws.proofs.StageMoved.{stage_moved}
-
--- a message that is a write set
-abbrev pub IsWriteSet : Message → Type 0
-IsWriteSet (message.Write body) = Unit {0}
-IsWriteSet (message.Report number) = ⊥
 
 -- what holds of the node of a member
 pub record Follows (order : List Event) (member : ℕ) (n : ModelNode) : Type 0 where
@@ -34,7 +28,6 @@ pub record Follows (order : List Event) (member : ℕ) (n : ModelNode) : Type 0 
   pub connected : n.at.phase ≡ phase.Connected
   pub facts : Facts order n
   pub in_step : IsInStep order n
-  pub writes : AllByRecursion IsWriteSet n.outbox
   pub stage : Stage order n
 
 -- all events keep the member
@@ -45,24 +38,6 @@ phase_moved : (order : List Event) (given : Type 0) (n : ModelNode) (k : Kind) (
     → Move order given n k m → m.at.phase ≡ n.at.phase
 phase_moved order given n k m (Tells s) = refl
 phase_moved order given n k m _ = refl
-
--- only write sets are sent
-pub behind_all : (front back : List Message) → AllByRecursion IsWriteSet (front ++ back)
-    → AllByRecursion IsWriteSet back
-behind_all [] back all = all
-behind_all (m ∷ front) back all = behind_all front back all.1
-
-writes_moved : (order : List Event) (given : Type 0) (n : ModelNode) (k : Kind) (m : ModelNode)
-    → Move order given n k m → AllByRecursion IsWriteSet n.outbox
-    → AllByRecursion IsWriteSet m.outbox
-writes_moved order given n k m (Streams s t here change range) h =
-    all_push IsWriteSet n.outbox _ h tt
-writes_moved order given n k m (Sends s t here range) h = all_push IsWriteSet n.outbox _ h tt
-writes_moved order given n k m (TakesBack s t w o there due range) h =
-    all_push IsWriteSet n.outbox _ h tt
-writes_moved order given n k m (Orders front back is) h =
-    behind_all front back (subst (AllByRecursion IsWriteSet) is h)
-writes_moved order given n k m _ h = h
 
 synced_moved : (order : List Event) (given : Type 0) (n : ModelNode) (k : Kind) (m : ModelNode)
     → Move order given n k m → n.at.view ≤ n.at.committed → m.at.view ≤ m.at.committed
@@ -80,9 +55,8 @@ module _ (order : List Event) (member : ℕ) (keeps : AllKeep order member) (giv
     connected = phase_moved order given n k m move ∙ h.connected;
     facts = facts_moved order given g n k m move h.facts;
     in_step = in_step_moved order given true n k m may move h.in_step;
-    writes = writes_moved order given n k m move h.writes;
     stage = stage_moved order n given g k m synced
-        (λ e there. subst (λ j. Keeps j e) (sym h.home) (keeps n.at.certified e there)) move
+        (λ e there. subst (λ j. Keeps j e) (sym h.home) (keeps n.at.certified e there)) may move
         h.facts h.stage;
   }
 
@@ -153,3 +127,27 @@ client_follows order member keeps n s c can h = by (nat_lt n.at.committed n.at.v
     by false late =
         paid_follows order member keeps (CanCall n c) can n 1 (client order n s c).1
         (ltb-false n.at.committed n.at.view late) (client_moves order true n s c) h
+
+-- ---- a report is one move, of a node that has committed the view of its member
+module _ (order : List Event) (given : Type 0) (n : ModelNode)
+    (early : nat_lt n.at.committed n.at.view ≡ true) where
+  report_still : Reaches order given true n 0 (report_step n).1
+  unfolding report_step
+  report_still =
+      chosen 0 n (is_left n.at.phase) (answer.Disconnected, n) _ (λ _. Here) (λ _.
+      chosen 0 n (is_joining n.at.phase || nat_lt n.at.committed n.at.view) (answer.NotSynced, n)
+      (answer.Reported n.at.committed, put_report n) (λ _. Here)
+      (λ is. absurd (joining_or (is_joining n.at.phase) _ early is)))
+
+pub report_follows : (order : List Event) (member : ℕ) → AllKeep order member → (n : ModelNode)
+    → Follows order member n → Follows order member (report_step n).1
+report_follows order member keeps n h = by (nat_lt n.at.committed n.at.view) refl
+  where
+    by : (b : Bool) → nat_lt n.at.committed n.at.view ≡ b
+        → Follows order member (report_step n).1
+    by true early =
+        still_follows order member keeps (Unit {0}) tt n (report_step n).1
+        (report_still order (Unit {0}) n early) h
+    by false late =
+        paid_follows order member keeps (Unit {0}) tt n 1 (report_step n).1
+        (ltb-false n.at.committed n.at.view late) (report_moves order (Unit {0}) true n) h

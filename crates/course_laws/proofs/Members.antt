@@ -282,6 +282,41 @@ member_report_foreign s sender number m differs =
     ap (λ all. get all m) (members-after s (Report sender number))
     ∙ reported_kept s sender number m (get s.members sender) differs
 
+-- how a member stands after its own report, which is not below the one before: it rises to it, or
+-- stays below it
+pub record IsReported (s : FoldState) (m number : ℕ) (st : Standing) : Type 0 where
+  pub now : Standing
+  pub stands : get (after s (Report m number)).members m ≡ Some now
+  pub serial : now.serial ≡ st.serial
+  pub report : now.report ≤ number
+
+module _ (s : FoldState) (m number : ℕ) (st : Standing) (is : get s.members m ≡ Some st) where
+  abbrev risen : Standing
+  risen = record st { report = number }
+
+  after_report : (after s (Report m number)).members
+      ≡ (cond (nat_le st.report number && nat_lt number (s.number + 1))
+      (record s { members = insert s.members m (record st { report = number }) }) s).members
+  after_report =
+      members-after s (Report m number) ∙ ap (λ o. (reported s m number o).members) is
+
+  reported_by : (b : Bool) → (after s (Report m number)).members
+      ≡ (cond b (record s { members = insert s.members m (record st { report = number }) })
+      s).members
+      → st.report ≤ number → IsReported s m number st
+  reported_by true all below = record {
+    now = risen;
+    stands = ap (λ ms. get ms m) all ∙ get-put numbers s.members m risen;
+    serial = refl;
+    report = omega arith;
+  }
+  reported_by false all below =
+      record { now = st; stands = ap (λ ms. get ms m) all ∙ is; serial = refl; report = below }
+
+  pub member_reported : st.report ≤ number → IsReported s m number st
+  member_reported =
+      reported_by (nat_le st.report number && nat_lt number (s.number + 1)) after_report
+
 -- ---- the floor
 min_first : (o : Option ℕ) (n k : ℕ) → k ≡ n → min n (unwrap_or o n) ≤ k
 min_first None n k same = omega (arith, same)

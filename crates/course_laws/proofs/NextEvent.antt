@@ -1,7 +1,7 @@
 -- What holds over the order so far holds when one more event is certified: an event of another
 -- member, a view that has the member, or the member's oldest pending write set, which is decided.
 use Rattle.std.proofs.Common.{◌≡◌, ℕ, ◌+◌, ◌≤◌, Bool, true, false, cond, List, [], ◌∷◌, ◌++◌, length, Option, Some, None, refl, ap, sym, subst, ◌∙◌, arith, eq-eqb, true≢false}
-use Rattle.std.specs.Prelude.{◌==◌, ◌||◌, not, nat_lt, is_some, unwrap_or}
+use Rattle.std.specs.Prelude.{◌==◌, ◌||◌, not, nat_lt, max, is_some, unwrap_or}
 use Rattle.std.specs.List.{AllByRecursion}
 use Rattle.std.specs.Ordering.{nat_cmp}
 use Rattle.std.proofs.lemmas.List.Sums.{fold-append}
@@ -22,14 +22,14 @@ use Rattle.cert_meaning.specs.Verdict as rules
 use Rattle.cert_meaning.specs.Verdict.{trx_of, is_rollback, is_broken, is_start}
 use Rattle.cert_meaning.specs.Fold.{Adds, effect_of, judged_as, judged_write, after, fragment_by}
 use Rattle.client_trx.specs.Live.{Live}
-use Rattle.node_meaning.specs.Facts.{IsOurs, IsFragmentOf}
+use Rattle.node_meaning.specs.Facts.{SerialsRise, IsOurs, IsFragmentOf}
 use Rattle.node_laws.proofs.SetLists.{unequal}
 use Rattle.node_laws.proofs.Fates.{grown}
 use Rattle.node_laws.proofs.Heads.{count}
 use Rattle.course_laws.specs.Laws.{IsByConflict}
-use Rattle.course_laws.specs.Ordered.{IsPlaced, OnlyEnds, HasSent, GoesOn, Entered}
+use Rattle.course_laws.specs.Ordered.{IsPlaced, OnlyEnds, HasSent, GoesOn, Rises, Entered}
 use Rattle.course_laws.proofs.Members.{IsApart, kept_open, member_own, floor_below}
-use Rattle.course_laws.proofs.Placing.{next_decided, seen_lower}
+use Rattle.course_laws.proofs.Placing.{next_decided, rises_lower}
 
 -- ---- a transaction that stays where it was
 broken_same : (s r : FoldState) (w : WriteSet)
@@ -55,11 +55,12 @@ goes_same s r v p t same h = record {
       };
 }
 
--- ---- an event that is none of the member's
+-- ---- an event that is none of the member's write sets
 module _ (s : FoldState) (e : Event) (m v b serial p : ℕ) (live : FiniteMap nat_cmp Live)
-    (sets : List WriteSet) (h : Entered s m v b serial p live sets)
-    (apart : (trx : TrxId) → trx.member ≡ m → IsApart e trx)
-    (stays : get (after s e).members m ≡ Some h.standing)
+    (sets : List WriteSet) (seen left : List ℕ) (h : Entered s m v b serial p live sets seen)
+    (apart : (trx : TrxId) → trx.member ≡ m → IsApart e trx) (now : Standing)
+    (stands : get (after s e).members m ≡ Some now) (same : now.serial ≡ h.standing.serial)
+    (rises : Rises now.report left (max p v))
     (mine : (se : ℕ) (t : Live) → get live se ≡ Some t → t.trx.member ≡ m) where
   abbrev r : FoldState
   r = after s e
@@ -75,14 +76,13 @@ module _ (s : FoldState) (e : Event) (m v b serial p : ℕ) (live : FiniteMap na
     still_placed ws ours.1 all.1,
   )
 
-  pub beside_entered : AllByRecursion (IsOurs m b p) sets → Entered r m v b serial p live sets
+  pub beside_entered : AllByRecursion (IsOurs m b p) sets → Entered r m v b serial p live sets left
   beside_entered ours = record {
-    standing = h.standing;
-    is_member = stays;
-    floor = floor_below s e m h.standing stays;
-    reported = h.reported;
-    serials = h.serials;
-    seen = h.seen;
+    standing = now;
+    is_member = stands;
+    floor = floor_below s e m now stands;
+    serials = subst (λ k. SerialsRise k sets serial) (sym same) h.serials;
+    rises = rises;
     placed = still_placed sets ours h.placed;
     ends = h.ends;
     each = λ se t there. goes_same s r v p t (kept t.trx (mine se t there)) (h.each se t there);
@@ -125,7 +125,8 @@ not_none k n is = ap not (unequal n 0 (λ same. omega (arith, is, same)))
 
 -- ---- the member's own oldest pending write set
 module _ (s : FoldState) (m v b serial p : ℕ) (live : FiniteMap nat_cmp Live) (w : WriteSet)
-    (rest : List WriteSet) (h : Entered s m v b serial p live (w ∷ rest))
+    (rest : List WriteSet) (left : List ℕ)
+    (h : Entered s m v b serial p live (w ∷ rest) (w.last_seen ∷ left))
     (ours : AllByRecursion (IsOurs m b p) (w ∷ rest)) (body : List ℕ)
     (read : decoded body ≡ Some w) (behind : p ≤ s.number) where
   abbrev next : FoldState
@@ -140,7 +141,7 @@ module _ (s : FoldState) (m v b serial p : ℕ) (live : FiniteMap nat_cmp Live) 
         own = ours.0.of_member;
         serial = h.serials.0;
         past = omega (arith, seen, behind);
-        fresh = omega (arith, h.floor, h.seen.0);
+        fresh = omega (arith, h.floor, h.rises.0);
         placed = h.placed.0;
       })
 
@@ -202,14 +203,13 @@ module _ (s : FoldState) (m v b serial p : ℕ) (live : FiniteMap nat_cmp Live) 
   -- all of it, where the live transactions are so now
   pub head_entered : (now : FiniteMap nat_cmp Live)
       → ((se : ℕ) (t : Live) → get now se ≡ Some t → GoesOn next v p t)
-      → Entered next m v b serial p now rest
+      → Entered next m v b serial p now rest left
   head_entered now each = record {
     standing = st;
     is_member = stands;
     floor = floor_below s (Write m body) m st stands;
-    reported = h.reported;
     serials = h.serials.1;
-    seen = seen_lower h.standing.report w.last_seen rest h.seen.0 h.seen.1;
+    rises = rises_lower h.standing.report w.last_seen left (max p v) h.rises.0 h.rises.1;
     placed = behind_placed rest h.placed.1 h.ends.0;
     ends = h.ends.1;
     each = each;

@@ -1,18 +1,21 @@
 -- The write sets that are pending: they are in line with the live transactions, and the next event
--- is the first of them where it is the member's own.
-use Rattle.std.proofs.Common.{◌≡◌, ℕ, ◌≤◌, false, cond, List, [], ◌∷◌, length, map, Some, None, refl, ap, sym, subst, ◌∙◌, arith, eq-eqb}
+-- is the first of them where it is the member's own. So it is with the messages ahead.
+use Rattle.std.proofs.Common.{◌≡◌, ℕ, ◌+◌, ◌≤◌, false, cond, List, [], ◌∷◌, ◌++◌, length, map, drop, Option, Some, None, refl, ap, sym, subst, ◌∙◌, arith, add-one, eq-eqb}
 use Rattle.std.specs.Prelude.{◌==◌, slice_get}
 use Rattle.std.specs.List.{filter_map, cons_option}
 use Rattle.order_event.specs.declared.event.Event.{Event}
 use Rattle.order_event.specs.declared.event.Event.TheVariants as event
+use Rattle.order_event.specs.declared.event.Message.{Message}
 use Rattle.write_set.specs.declared.write_set.WriteSet.{WriteSet}
 use Rattle.write_set.specs.Reading.{decoded}
 use Rattle.node_meaning.specs.Node.{ModelNode}
 use Rattle.node_meaning.specs.Facts.{Facts, Lined, pending}
+use Rattle.node_meaning.proofs.CertifyFacts.{drop_one}
 use Rattle.node_laws.proofs.Moves.{with_certified}
 use Rattle.node_laws.proofs.Heads.{IsSplit, Split, split}
+use Rattle.node_laws.proofs.InStep.{message_of, messages_behind}
 use Rattle.node_laws.proofs.SentMoved.{certifies_pending}
-use Rattle.course_laws.specs.Ordered.{pending_sets}
+use Rattle.course_laws.specs.Ordered.{pending_sets, seen_in, seen_ahead}
 
 -- what bodies spell
 some_back : (bodies : List (List ℕ)) (sets : List WriteSet)
@@ -25,6 +28,22 @@ some_back (b ∷ bodies) (w ∷ sets) is =
     let tail : map decoded bodies ≡ map Some sets = cc in
     ap (λ o. cons_option o (filter_map decoded bodies)) head
     ∙ ap (λ rest. w ∷ rest) (some_back bodies sets tail)
+
+module _ (order : List Event) (n : ModelNode) where
+  abbrev c : ℕ
+  c = n.at.certified
+
+  -- what the member's messages ahead had seen, where the next event is of such a message or none
+  pub seen_next : (e : Event) (o : Option Message) → slice_get order c ≡ Some e
+      → message_of n.at.member e ≡ o
+      → seen_ahead order n ≡ filter_map seen_in
+      (cons_option o (messages_behind n.at.member (c + 1) order) ++ n.outbox)
+  seen_next e o there is =
+      let m = n.at.member in
+      let left = messages_behind n.at.member (c + 1) order in
+      ap (λ events. filter_map seen_in (filter_map (message_of m) events ++ n.outbox))
+      (drop_one order c e there ∙ ap (λ k. e ∷ drop k order) (sym (add-one c)))
+      ∙ ap (λ x. filter_map seen_in (cons_option x left ++ n.outbox)) is
 
 module _ (order : List Event) (n : ModelNode) (f : Facts order n) where
   pub sets_lined : Lined order n.at.member n.at.begin n.at.serial n.at.committed n.at.certified

@@ -3,7 +3,6 @@
 use Rattle.std.proofs.Common.{◌≡◌, ℕ, ◌≤◌, ◌<◌, Bool, true, false, cond, List, [], ◌∷◌, ◌++◌, length, Option, Some, None, refl, ap, sym, subst, ◌∙◌, arith, eq-eqb, true≢false}
 use Rattle.std.specs.Prelude.{◌==◌, ◌||◌, not, nat_le, nat_lt, is_some}
 use Rattle.std.specs.Option.{option_map_or}
-use Rattle.std.specs.List.{AllByRecursion}
 use Rattle.std.proofs.lemmas.Bool.Decides.{nat_tests}
 use Rattle.finite_map.specs.FiniteMap.{get, len}
 use Rattle.wsrep_base.specs.declared.verdict.Verdict.{Verdict}
@@ -15,9 +14,9 @@ use Rattle.cert_meaning.specs.State.{FoldState, is_member, serial_of, is_open, f
 use Rattle.cert_meaning.specs.Verdict as rules
 use Rattle.cert_meaning.specs.Verdict.{trx_of, is_rollback, is_broken, is_start, is_out_of_place, conflict_or_held, conflict_of, held_by}
 use Rattle.client_trx.specs.Live.{Live, gathered, commit_flags, fragment_flags}
-use Rattle.node_meaning.specs.Facts.{sets_of, Gathered, IsOurs, IsUndecided}
+use Rattle.node_meaning.specs.Facts.{sets_of, Gathered, IsUndecided}
 use Rattle.course_laws.specs.Laws.{IsByConflict}
-use Rattle.course_laws.specs.Ordered.{SeenRises, IsPlaced, OnlyEnds, AllEnd, HasSent}
+use Rattle.course_laws.specs.Ordered.{Rises, IsPlaced, OnlyEnds, AllEnd, HasSent}
 
 -- ---- its verdict
 -- a write set of a member that goes on from what the member sent
@@ -154,14 +153,19 @@ ends_rollback [] w back ends = (tt, tt)
 ends_rollback (v ∷ sets) w back ends =
     (all_pushed v w sets ends.0 (λ same. back), ends_rollback sets w back ends.1)
 
+-- ---- numbers that rise
 -- what is seen now is not below what was
-pub seen_push : (m b p low : ℕ) (sets : List WriteSet) (w : WriteSet) → w.last_seen ≡ p → low ≤ p
-    → AllByRecursion (IsOurs m b p) sets → SeenRises low sets → SeenRises low (sets ++ w ∷ [])
-seen_push m b p low [] w is below ours rises = (omega (arith, is, below), tt)
-seen_push m b p low (v ∷ sets) w is below ours rises =
-    (rises.0, seen_push m b p v.last_seen sets w is ours.0.seen ours.1 rises.1)
+pub rises_push : (low : ℕ) (ks : List ℕ) (high k : ℕ) → high ≤ k → Rises low ks high
+    → Rises low (ks ++ k ∷ []) k
+rises_push low [] high k above rises = (omega (arith, rises, above), omega arith)
+rises_push low (j ∷ ks) high k above rises = (rises.0, rises_push j ks high k above rises.1)
 
-pub seen_lower : (low high : ℕ) (sets : List WriteSet) → low ≤ high → SeenRises high sets
-    → SeenRises low sets
-seen_lower low high [] below rises = tt
-seen_lower low high (w ∷ sets) below rises = (omega (arith, below, rises.0), rises.1)
+pub rises_lower : (low k : ℕ) (ks : List ℕ) (high : ℕ) → low ≤ k → Rises k ks high
+    → Rises low ks high
+rises_lower low k [] high below rises = omega (arith, below, rises)
+rises_lower low k (j ∷ ks) high below rises = (omega (arith, below, rises.0), rises.1)
+
+pub rises_higher : (low : ℕ) (ks : List ℕ) (high top : ℕ) → high ≤ top → Rises low ks high
+    → Rises low ks top
+rises_higher low [] high top above rises = omega (arith, rises, above)
+rises_higher low (k ∷ ks) high top above rises = (rises.0, rises_higher k ks high top above rises.1)

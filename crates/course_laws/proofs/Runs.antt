@@ -103,7 +103,7 @@ module _ (c : ModelCluster) (i : ℕ) (n : ModelNode) (there : slice_get c.nodes
   own_step (act.Finish number) fits = does_alone (act.Finish number) fits refl
   own_step act.Advance fits = does_alone act.Advance fits refl
   own_step act.Drain fits = drain_by
-  own_step act.Report fits = still
+  own_step act.Report fits = does_alone act.Report fits refl
   own_step act.Status fits = still
   own_step act.Leave fits = still
   own_step (act.Join fresh) fits = still
@@ -157,7 +157,7 @@ module _ (c : ModelCluster) (i : ℕ) (n : ModelNode) (there : slice_get c.nodes
     other_step act.Advance = moves (node_step c.order m act.Advance).1
     other_step act.Drain = orders m.outbox
         (drained (c.order ++ map (event_of m.at.member) m.outbox) (with_ordered m m.outbox []))
-    other_step act.Report = still
+    other_step act.Report = moves (node_step c.order m act.Report).1
     other_step act.Status = still
     other_step act.Leave = still
     other_step (act.Join fresh) = still

@@ -1,15 +1,18 @@
 -- What a node sends goes on from what is pending; and what holds over the order so far holds when a
 -- transaction begins, changes or ends.
 use Rattle.std.proofs.Common.{◌≡◌, ℕ, ◌+◌, ◌≤◌, List, [], ◌∷◌, ◌++◌, length, Option, Some, refl, ap, sym, subst, ◌∙◌, arith, true≢false}
-use Rattle.std.specs.Prelude.{◌==◌, IsTrue, nat_le, not, is_some, unwrap_or}
+use Rattle.std.specs.Prelude.{◌==◌, IsTrue, nat_le, max, not, is_some, unwrap_or}
 use Rattle.std.specs.List.{filter_map, cons_option}
+use Rattle.std.specs.Option.{option_map}
 use Rattle.std.specs.Ordering.{nat_cmp}
 use Rattle.std.proofs.lemmas.Bool.Decides.{nat_tests}
+use Rattle.std.proofs.lemmas.List.{append_assoc}
 use Rattle.std.proofs.lemmas.List.Elements.{filter_map-append}
 use Rattle.finite_map.specs.FiniteMap.{FiniteMap, get, insert, remove, len}
 use Rattle.finite_map.proofs.Edits.{numbers, each_put, each_left}
 use Rattle.key_sets.specs.Keys.{LIMIT}
 use Rattle.order_event.specs.declared.event.Event.{Event}
+use Rattle.order_event.specs.declared.event.Message.{Message}
 use Rattle.order_event.specs.declared.event.Message.TheVariants as message
 use Rattle.write_set.specs.declared.write_set.WriteSet.{WriteSet}
 use Rattle.write_set.specs.Reading.{decoded}
@@ -21,15 +24,17 @@ use Rattle.client_trx.specs.Live.{Live, with_status, commit_of, fragment_of, fra
 use Rattle.client_trx.specs.declared.status.Status.{Status}
 use Rattle.client_trx.specs.declared.status.Status.TheVariants as status
 use Rattle.node_meaning.specs.Node.{ModelNode}
+use Rattle.node_meaning.specs.Steps.{put_report}
 use Rattle.node_meaning.specs.Facts.{Facts, ProgressInRange, StandsBy, Gathered, sets_of, pending, pending_in}
 use Rattle.node_meaning.proofs.ClientFacts.{first}
 use Rattle.node_meaning.proofs.RangeLaws.{commit-decoded, fragment-decoded, rollback-decoded}
-use Rattle.node_meaning.proofs.SentLaws.{pending-sent}
+use Rattle.node_meaning.proofs.SentLaws.{pending-sent, pending-reported}
 use Rattle.node_laws.proofs.Moves.{IsRunning, Unlocked, Sent, Passed}
 use Rattle.node_laws.proofs.SetLists.{serials_push, all_push}
-use Rattle.course_laws.specs.Ordered.{pending_sets, IsPlaced, AllEnd, GoesOn, Entered, OrderedFacts}
+use Rattle.node_laws.proofs.InStep.{messages_behind}
+use Rattle.course_laws.specs.Ordered.{pending_sets, seen_in, seen_ahead, Rises, IsPlaced, AllEnd, GoesOn, Entered, OrderedFacts}
 use Rattle.course_laws.proofs.PendingSets.{sets_lined}
-use Rattle.course_laws.proofs.Placing.{fragment_placed, commit_placed, ends_push, ends_rollback, seen_push}
+use Rattle.course_laws.proofs.Placing.{fragment_placed, commit_placed, ends_push, ends_rollback, rises_push, rises_higher}
 
 few_of : (k most : ℕ) → IsTrue (nat_le k most) → k ≤ most
 few_of k most is = grind (arith, nat_tests)
@@ -47,20 +52,22 @@ module _ (order : List Event) (n : ModelNode) (f : Facts order n) (h : OrderedFa
   abbrev sets : List WriteSet
   sets = pending_sets order n
 
+  abbrev seen : List ℕ
+  seen = seen_ahead order n
+
   abbrev Goes : Live → Type 0
   Goes t = GoesOn s n.at.view p t
 
   -- ---- nothing is sent
   over : (begin : ℕ) → n.at.begin ≤ begin → (now : FiniteMap nat_cmp Live)
       → ((se : ℕ) (t : Live) → get now se ≡ Some t → Goes t)
-      → Entered s m n.at.view begin n.at.serial p now sets
+      → Entered s m n.at.view begin n.at.serial p now sets seen
   over begin later now each = record {
     standing = h.standing;
     is_member = h.is_member;
     floor = h.floor;
-    reported = h.reported;
     serials = h.serials;
-    seen = h.seen;
+    rises = h.rises;
     placed = h.placed;
     ends = h.ends;
     each = each;
@@ -76,10 +83,11 @@ module _ (order : List Event) (n : ModelNode) (f : Facts order n) (h : OrderedFa
 
   pub put_entered : (se : ℕ) (u : Live) → Goes u
       → Entered s m n.at.view n.at.begin n.at.serial p (insert n.live se u) sets
+      seen
   put_entered se u goes = over n.at.begin (omega arith) (insert n.live se u) (put_goes se u goes)
 
   pub left_entered : (se : ℕ)
-      → Entered s m n.at.view n.at.begin n.at.serial p (remove n.live se) sets
+      → Entered s m n.at.view n.at.begin n.at.serial p (remove n.live se) sets seen
   left_entered se = over n.at.begin (omega arith) (remove n.live se) (left_goes se)
 
   -- ---- a transaction begins
@@ -98,24 +106,60 @@ module _ (order : List Event) (n : ModelNode) (f : Facts order n) (h : OrderedFa
 
   pub begun_entered : n.at.view ≤ p → (se unit : ℕ)
       → Entered s m n.at.view (n.at.begin + 1) n.at.serial p
-      (insert n.live se (first m n.at.begin unit)) sets
+      (insert n.live se (first m n.at.begin unit)) sets seen
   begun_entered synced se unit =
       over (n.at.begin + 1) (omega arith) (insert n.live se (first m n.at.begin unit))
       (put_goes se (first m n.at.begin unit) (begun_goes synced unit))
 
+  -- ---- what is sent has seen all that is committed, and so no less than what was sent before
+  synced_rises : n.at.view ≤ p → Rises h.standing.report (seen ++ p ∷ []) (max p n.at.view)
+  synced_rises synced =
+      rises_higher h.standing.report (seen ++ p ∷ []) p (max p n.at.view) (omega arith)
+      (rises_push h.standing.report seen (max p n.at.view) p (omega (arith, synced)) h.rises)
+
+  abbrev seen_more : Message → List ℕ
+  seen_more x = filter_map seen_in
+      (messages_behind m n.at.certified order ++ (n.outbox ++ x ∷ []))
+
+  seen_sent : (x : Message) → seen_in x ≡ Some p → seen_more x ≡ seen ++ p ∷ []
+  seen_sent x is =
+      let behind = messages_behind m n.at.certified order in
+      ap (filter_map seen_in) (sym (append_assoc behind n.outbox (x ∷ [])))
+      ∙ filter_map-append seen_in (behind ++ n.outbox) (x ∷ [])
+      ∙ ap (λ o. seen ++ cons_option o []) is
+
+  -- a report
+  pub report_entered : n.at.view ≤ p → OrderedFacts order (put_report n)
+  report_entered synced =
+      subst (Entered s m n.at.view n.at.begin n.at.serial p n.live
+      (pending_sets order (put_report n)))
+      (sym (seen_sent (message.Report p) refl))
+      (subst (λ bodies. Entered s m n.at.view n.at.begin n.at.serial p n.live
+      (filter_map decoded bodies) (seen ++ p ∷ []))
+      (pending-reported order m n.at.certified n.at.taken n.ordered n.outbox p)
+      (record {
+        standing = h.standing;
+        is_member = h.is_member;
+        floor = h.floor;
+        serials = h.serials;
+        rises = synced_rises synced;
+        placed = h.placed;
+        ends = h.ends;
+        each = h.each;
+        unbegun = h.unbegun;
+      }))
+
   -- ---- one more write set is sent
-  pushed : (w : WriteSet) → w.last_seen ≡ p → w.serial ≡ n.at.serial → n.at.view ≤ p
+  pushed : (w : WriteSet) → w.serial ≡ n.at.serial → n.at.view ≤ p
       → IsPlaced s w → AllEnd (sets ++ w ∷ []) → (now : FiniteMap nat_cmp Live)
       → ((se : ℕ) (t : Live) → get now se ≡ Some t → Goes t)
-      → Entered s m n.at.view n.at.begin (n.at.serial + 1) p now (sets ++ w ∷ [])
-  pushed w seen number synced placed ends now each = record {
+      → Entered s m n.at.view n.at.begin (n.at.serial + 1) p now (sets ++ w ∷ []) (seen ++ p ∷ [])
+  pushed w number synced placed ends now each = record {
     standing = h.standing;
     is_member = h.is_member;
     floor = h.floor;
-    reported = h.reported;
     serials = serials_push h.standing.serial sets n.at.serial w number h.serials;
-    seen = seen_push m n.at.begin p h.standing.report sets w seen
-        (omega (arith, h.reported, synced)) (sets_lined order n f).ours h.seen;
+    rises = synced_rises synced;
     placed = all_push (IsPlaced s) sets w h.placed placed;
     ends = ends;
     each = each;
@@ -127,17 +171,24 @@ module _ (order : List Event) (n : ModelNode) (f : Facts order n) (h : OrderedFa
   OverMore serial body now =
       Entered s m n.at.view n.at.begin serial p now
       (filter_map decoded (pending_in order m n.at.certified n.at.taken
-      (n.ordered ++ (n.outbox ++ message.Write body ∷ []))))
+      (n.ordered ++ (n.outbox ++ message.Write body ∷ [])))) (seen_more (message.Write body))
 
   sent_more : (w : WriteSet) (now : FiniteMap nat_cmp Live) → decoded (spelling w) ≡ Some w
-      → Entered s m n.at.view n.at.begin (n.at.serial + 1) p now (sets ++ w ∷ [])
+      → w.last_seen ≡ p
+      → Entered s m n.at.view n.at.begin (n.at.serial + 1) p now (sets ++ w ∷ []) (seen ++ p ∷ [])
       → OverMore (n.at.serial + 1) (spelling w) now
-  sent_more w now read =
-      subst (Entered s m n.at.view n.at.begin (n.at.serial + 1) p now)
+  sent_more w now read is entered =
+      subst (Entered s m n.at.view n.at.begin (n.at.serial + 1) p now (filter_map decoded
+      (pending_in order m n.at.certified n.at.taken
+      (n.ordered ++ (n.outbox ++ message.Write (spelling w) ∷ [])))))
+      (sym (seen_sent (message.Write (spelling w))
+      (ap (option_map (λ (x : WriteSet). x.last_seen)) read ∙ ap Some is)))
+      (subst (λ now_sets. Entered s m n.at.view n.at.begin (n.at.serial + 1) p now now_sets
+      (seen ++ p ∷ []))
       (sym (ap (filter_map decoded) (pending-sent order m n.at.certified n.at.taken n.ordered
       n.outbox (spelling w))
       ∙ filter_map-append decoded (pending order n) (spelling w ∷ [])
-      ∙ ap (λ o. sets ++ cons_option o []) read))
+      ∙ ap (λ o. sets ++ cons_option o []) read)) entered)
 
   -- ---- a live transaction
   module _ (se : ℕ) (t : Live) (there : get n.live se ≡ Some t) where
@@ -155,8 +206,8 @@ module _ (order : List Event) (n : ModelNode) (f : Facts order n) (h : OrderedFa
         let w = rollback_of t n.at.serial p in
         let was = (sets_lined order n f).each se t there in
         sent_more w (remove n.live se)
-        (rollback-decoded n.at t range was.of_member was.begun (f.sendable se t there))
-        (pushed w refl refl (h.each se t there).synced (λ back. absurd (true≢false back))
+        (rollback-decoded n.at t range was.of_member was.begun (f.sendable se t there)) refl
+        (pushed w refl (h.each se t there).synced (λ back. absurd (true≢false back))
         (ends_rollback sets w refl h.ends) (remove n.live se) (left_goes se))
 
   -- ---- one that is Running
@@ -191,8 +242,8 @@ module _ (order : List Event) (n : ModelNode) (f : Facts order n) (h : OrderedFa
         let was = (sets_lined order n f).each se t here.there in
         let now = insert n.live se (fragment_sent t) in
         sent_more w now
-        (fragment-decoded n.at t range was.of_member was.begun (f.sendable se t here.there))
-        (pushed w refl refl goes.synced
+        (fragment-decoded n.at t range was.of_member was.begun (f.sendable se t here.there)) refl
+        (pushed w refl goes.synced
         (λ back. fragment_placed s t n.at.serial p (goes.sent here.running) idle.1 few)
         (ends_push sets w idle.0 h.ends) now
         (put_goes se (fragment_sent t) (resting se t here.there (fragment_sent t) (λ is. cc))))
@@ -208,8 +259,8 @@ module _ (order : List Event) (n : ModelNode) (f : Facts order n) (h : OrderedFa
         let sent = with_status t status.CommitSent in
         let now = insert n.live se (with_status t status.CommitSent) in
         sent_more w now
-        (commit-decoded n.at t range was.of_member was.begun (f.sendable se t here.there))
-        (pushed w refl refl goes.synced
+        (commit-decoded n.at t range was.of_member was.begun (f.sendable se t here.there)) refl
+        (pushed w refl goes.synced
         (λ back. commit_placed s t n.at.serial p (goes.sent here.running) idle.1 few)
         (ends_push sets w idle.0 h.ends) now
         (put_goes se sent (resting se t here.there sent (λ is. cc))))

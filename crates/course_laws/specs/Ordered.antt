@@ -1,11 +1,14 @@
 -- what holds of a node of a cluster over the order so far, beside the facts that hold over any
-use Rattle.std.specs.Prelude.{◌≡◌, ◌≤◌, ◌<◌, ℕ, ◌==◌, max, not, false, true, List, [], ◌∷◌, length, slice_get, Some, None}
+use Rattle.std.specs.Prelude.{◌≡◌, ◌≤◌, ◌<◌, ℕ, ◌==◌, max, not, false, true, List, [], ◌∷◌, ◌++◌, length, slice_get, Option, Some, None}
 use Rattle.std.specs.List.{filter_map, list_any, AllByRecursion}
+use Rattle.std.specs.Option.{option_map}
 use Rattle.std.specs.Ordering.{nat_cmp}
 use Rattle.finite_map.specs.FiniteMap.{FiniteMap, get}
 use Rattle.wsrep_base.specs.declared.ids.TrxId.{TrxId}
 use Rattle.order_event.specs.declared.event.Event.{Event}
 use Rattle.order_event.specs.declared.event.Event.TheVariants as event
+use Rattle.order_event.specs.declared.event.Message.{Message}
+use Rattle.order_event.specs.declared.event.Message.TheVariants as message
 use Rattle.write_set.specs.declared.write_set.WriteSet.{WriteSet}
 use Rattle.write_set.specs.Reading.{decoded}
 use Rattle.cert_meaning.specs.declared.members.Standing.{Standing}
@@ -16,15 +19,27 @@ use Rattle.client_trx.specs.Live.{Live}
 use Rattle.client_trx.specs.declared.status.Status.TheVariants as status
 use Rattle.node_meaning.specs.Node.{ModelNode}
 use Rattle.node_meaning.specs.Facts.{SerialsRise, pending}
+use Rattle.node_laws.proofs.InStep.{messages_behind}
 
 -- the write sets that are pending
 abbrev pub pending_sets : List Event → ModelNode → List WriteSet
 pending_sets order n = filter_map decoded (pending order n)
 
--- what their sender had seen does not fall along them, from the one number on
-abbrev pub SeenRises : ℕ → List WriteSet → Type 0
-SeenRises low [] = Unit {0}
-SeenRises low (w ∷ sets) = (low ≤ w.last_seen) × SeenRises w.last_seen sets
+-- what its sender had committed when it sent the message
+abbrev pub seen_in : Message → Option ℕ
+seen_in (message.Write body) = option_map (λ (w : WriteSet). w.last_seen) (decoded body)
+seen_in (message.Report number) = Some number
+
+-- so of each of the member's messages behind what its node certified: those in the order, and then
+-- those in its outbox
+abbrev pub seen_ahead : List Event → ModelNode → List ℕ
+seen_ahead order n =
+    filter_map seen_in (messages_behind n.at.member n.at.certified order ++ n.outbox)
+
+-- the numbers do not fall, from the one number on, and none is above the other
+abbrev pub Rises : ℕ → List ℕ → ℕ → Type 0
+Rises low [] high = low ≤ high
+Rises low (k ∷ ks) high = (low ≤ k) × Rises k ks high
 
 -- a write set that is no rollback goes on where its transaction stands
 abbrev pub IsPlaced : FoldState → WriteSet → Type 0
@@ -54,14 +69,14 @@ pub record GoesOn (s : FoldState) (view committed : ℕ) (t : Live) : Type 0 whe
 
 -- the node's member is one, and what is pending follows what it had sent
 pub record Entered (s : FoldState) (member view begin serial committed : ℕ)
-    (live : FiniteMap nat_cmp Live) (sets : List WriteSet) : Type 0 where
+    (live : FiniteMap nat_cmp Live) (sets : List WriteSet) (seen : List ℕ) : Type 0 where
   pub standing : Standing
   pub is_member : get s.members member ≡ Some standing
   pub floor : s.floor ≤ standing.report
-  -- its report is not above what is committed, or above its view where that is greater
-  pub reported : standing.report ≤ max committed view
   pub serials : SerialsRise standing.serial sets serial
-  pub seen : SeenRises standing.report sets
+  -- what its messages ahead had seen rises from its report to what is committed, or to its view
+  -- where that is greater
+  pub rises : Rises standing.report seen (max committed view)
   pub placed : AllByRecursion (IsPlaced s) sets
   pub ends : AllEnd sets
   pub each : (session : ℕ) (t : Live) → get live session ≡ Some t → GoesOn s view committed t
@@ -72,24 +87,24 @@ pub record Entered (s : FoldState) (member view begin serial committed : ℕ)
 abbrev pub OrderedFacts : List Event → ModelNode → Type 0
 OrderedFacts order n =
     Entered (state_at order n.at.certified) n.at.member n.at.view n.at.begin n.at.serial
-    n.at.committed n.live (pending_sets order n)
+    n.at.committed n.live (pending_sets order n) (seen_ahead order n)
 
--- what an event of a course keeps of a member: a view has it, and no report is its own, as no node
--- sends one
+-- what an event of a course keeps of a member: a view has it
 abbrev pub Keeps : ℕ → Event → Type 0
 Keeps member (event.Write sender body) = Unit {0}
 Keeps member (event.View version members) = list_any (λ k. k == member) members ≡ true
-Keeps member (event.Report sender number) = sender == member ≡ false
+Keeps member (event.Report sender number) = Unit {0}
 
 -- the node has not certified the view in which its member enters, which is the first event: it has
 -- nothing live and has sent nothing
 pub record IsEarly (order : List Event) (member view certified serial : ℕ)
-    (live : FiniteMap nat_cmp Live) (bodies : List (List ℕ)) : Type 0 where
+    (live : FiniteMap nat_cmp Live) (bodies : List (List ℕ)) (seen : List ℕ) : Type 0 where
   pub none : certified ≡ 0
   pub first : view ≡ 1
   pub positive : 0 < serial
   pub idle : (session : ℕ) (t : Live) → get live session ≡ Some t → ⊥
   pub nothing : bodies ≡ []
+  pub unseen : seen ≡ []
   pub version : ℕ
   pub members : List ℕ
   pub opens : slice_get order 0 ≡ Some (event.View version members)
@@ -98,5 +113,5 @@ pub record IsEarly (order : List Event) (member view certified serial : ℕ)
 -- before that, and since
 pub data Stage (order : List Event) (n : ModelNode) : Type 0 where
   Early : IsEarly order n.at.member n.at.view n.at.certified n.at.serial n.live (pending order n)
-      → Stage order n
+      (seen_ahead order n) → Stage order n
   Since : OrderedFacts order n → Stage order n
