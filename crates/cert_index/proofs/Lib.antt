@@ -1,0 +1,4 @@
+pub mod LatestLemmas
+pub mod MeetLemmas
+pub mod PairLemmas
+pub mod TableLemmas
