@@ -35,7 +35,7 @@ greater-swap a b c d =
     ∙ ap (greater a) (sym (greater-assoc b c d) ∙ ap (λ o. greater o d) (greater-comm b c) ∙ greater-assoc c b d)
     ∙ sym (greater-assoc a c (greater b d))
 
-at-or : (b c : Bool) (n : ℕ) → at (b || c) n ≡ greater (at b n) (at c n)
+pub at-or : (b c : Bool) (n : ℕ) → at (b || c) n ≡ greater (at b n) (at c n)
 at-or true true n = sym (greater-same (Some n))
 at-or true false n = refl
 at-or false c n = refl

@@ -1,7 +1,8 @@
 -- Which entries meet some keys, told by the kinds at the same parts.
-use Rattle.std.proofs.Common.{◌≡◌, ℕ, Bool, true, false, cond, ◌||◌, ◌&&◌, List, [], ◌∷◌, ◌++◌, Some, None, refl, sym, ap, ◌∙◌}
+use Rattle.std.proofs.Common.{◌≡◌, ℕ, ◌+◌, ◌<◌, length, take, get_or, Bool, true, false, cond, ◌||◌, ◌&&◌, List, [], ◌∷◌, ◌++◌, Option, Some, None, refl, sym, ap, ◌∙◌}
 use Rattle.std.specs.Prelude.{flat_map}
 use Rattle.std.specs.List.{list_any}
+use Rattle.std.proofs.lemmas.List.{take_more}
 use Rattle.std.proofs.lemmas.List.Concat.{flat_map-append}
 use Rattle.std.proofs.lemmas.List.Folds.{list_any-append}
 use Rattle.key_sets.specs.declared.kind.Kind.{Kind}
@@ -58,6 +59,15 @@ module _ (test : Kind → Kind → Bool) where
   latest-more ks k es =
       sym (latest-or (meets test ks) (meets test (k ∷ [])) es)
       ∙ (λ i. latest (λ e. sym (meets-append ks (k ∷ []) e) i) es)
+
+  -- the latest that meets the keys up to the next one, from those before and from that one
+  pub latest-next : (keys : List (Parts × Kind)) (i : ℕ) (d : Parts × Kind) (es : List Entry) → i < length keys
+      → (before one after : Option ℕ)
+      → before ≡ latest (meets test (take i keys)) es → one ≡ latest (meets test (get_or keys i d ∷ [])) es
+      → after ≡ greater before one → after ≡ latest (meets test (take (i + 1) keys)) es
+  latest-next keys i d es inside before one after at_before at_one at_after =
+      at_after ∙ (λ j. greater (at_before j) (at_one j)) ∙ latest-more (take i keys) (get_or keys i d) es
+      ∙ ap (λ ks. latest (meets test ks) es) (sym (take_more keys i d inside))
 
   -- no key is met where there is none
   pub latest-no_keys : (es : List Entry) → latest (meets test []) es ≡ None

@@ -13,7 +13,7 @@ use Rattle.cert_index.specs.Pairs.{is_of, is_pair, kind_eq, pair_eq, same_kind, 
 use Rattle.cert_index.specs.Index.{only_above}
 use Rattle.cert_index.proofs.MeetLemmas.{or_false}
 
-kind_eq-same : (k l : Kind) → kind_eq k l ≡ same_kind k l
+pub kind_eq-same : (k l : Kind) → kind_eq k l ≡ same_kind k l
 kind_eq-same Shared Shared = refl
 kind_eq-same Shared Update = refl
 kind_eq-same Shared Exclusive = refl
@@ -24,7 +24,7 @@ kind_eq-same Exclusive Shared = refl
 kind_eq-same Exclusive Update = refl
 kind_eq-same Exclusive Exclusive = refl
 
-abbrev own : Parts × Kind → Pair
+abbrev pub own : Parts × Kind → Pair
 own key = record { parts = key.0; kind = key.1 }
 
 pub pair_eq-is : (key : Parts × Kind) (q : Pair) → pair_eq (own key) q ≡ is_pair q key

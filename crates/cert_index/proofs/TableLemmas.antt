@@ -1,15 +1,16 @@
 -- The table finds the latest of the entries: once one more is entered, and once the old ones are gone.
-use Rattle.std.proofs.Common.{◌≡◌, ℕ, ◌≤◌, ◌<◌, Bool, true, false, cond, ◌||◌, ◌&&◌, List, [], ◌∷◌, ◌++◌, Option, Some, refl, sym, ap, subst, ◌∙◌, arith, le-leb}
+use Rattle.std.proofs.Common.{◌≡◌, ℕ, ◌+◌, length, take, get_or, append_assoc, ◌≤◌, ◌<◌, Bool, true, false, cond, ◌||◌, ◌&&◌, List, [], ◌∷◌, ◌++◌, Option, Some, refl, sym, ap, subst, ◌∙◌, arith, le-leb}
 use Rattle.std.specs.Prelude.{nat_lt, nat_le}
 use Rattle.std.specs.List.{list_any}
 use Rattle.std.specs.Map.{lookup}
+use Rattle.std.proofs.lemmas.List.{map_more}
 use Rattle.std.proofs.lemmas.Bool.{lt-ltb, le-ltb, ltb-false, lt-leb}
 use Rattle.key_sets.specs.declared.kind.Kind.{Kind}
 use Rattle.key_sets.specs.declared.parts.Parts.{Parts}
 use Rattle.cert_meaning.specs.Extremes.{greater}
 use Rattle.cert_meaning.proofs.ExtremeLemmas.{greater-none}
 use Rattle.cert_index.specs.declared.pair.Pair.{Pair}
-use Rattle.cert_index.specs.Index.{Entry, above, latest, only_above, AreUpTo}
+use Rattle.cert_index.specs.Index.{Entry, above, entries_of, latest, only_above, AreUpTo}
 use Rattle.cert_index.specs.Pairs.{is_at, is_of, pair_eq}
 use Rattle.cert_index.specs.Table.{BeginsAbove, Finds, RiseFrom}
 use Rattle.cert_index.proofs.LatestLemmas.{at, latest-step, latest-append, latest-topped, latest-above}
@@ -21,7 +22,7 @@ Table = List (Pair × ℕ)
 abbrev pub entry : ℕ → Parts × Kind → Entry
 entry n key = record { number = n; key = key }
 
-pub up_to-more : (n : ℕ) (key : Parts × Kind) (es : List Entry) → AreUpTo n es → AreUpTo n (es ++ entry n key ∷ [])
+up_to-more : (n : ℕ) (key : Parts × Kind) (es : List Entry) → AreUpTo n es → AreUpTo n (es ++ entry n key ∷ [])
 up_to-more n key [] up = (let same : n ≤ n = omega arith in same, tt)
 up_to-more n key (e ∷ es) up = (up.0, up_to-more n key es up.1)
 
@@ -35,17 +36,30 @@ put_on_top true n o is = is
 put_on_top false n o is = greater-none o
 
 -- one more entry, of a commit that none is above
-pub entered-more : (before after : Table) (n : ℕ) (key : Parts × Kind) (es : List Entry) → AreUpTo n es → Finds before es
+pub entered-more : (before after : Table) (n : ℕ) (key : Parts × Kind) (es fs : List Entry) → fs ≡ es ++ entry n key ∷ []
+    → AreUpTo n es → Finds before es
     → ((q : Pair) → lookup (pair_eq q) after ≡ cond (is_of q key) (Some n) (lookup (pair_eq q) before))
-    → Finds after (es ++ entry n key ∷ [])
-entered-more before after n key es up finds is = record {
+    → Finds after fs
+entered-more before after n key es fs more up finds is = subst (Finds after) (sym more) (record {
   rise = rise-more 0 n key es (let low : 0 ≤ n = omega arith in low) up finds.rise;
   found = λ q.
       is q ∙ ap (cond (is_of q key) (Some n)) (finds.found q)
       ∙ sym (put_on_top (is_of q key) n (latest (is_at q) es) (latest-topped (is_at q) n es up))
       ∙ ap (greater (latest (is_at q) es)) (sym (latest-step (is_at q) (entry n key) [] ∙ greater-none (at (is_of q key) n)))
       ∙ sym (latest-append (is_at q) es (entry n key ∷ []));
-}
+})
+
+pub up_to-next : (n : ℕ) (key : Parts × Kind) (es fs : List Entry) → fs ≡ es ++ entry n key ∷ [] → AreUpTo n es → AreUpTo n fs
+up_to-next n key es fs more up = subst (AreUpTo n) (sym more) (up_to-more n key es up)
+
+-- what is kept once one key more of a commit is entered
+pub kept-next : (n : ℕ) (keys : List (Parts × Kind)) (i : ℕ) (d : Parts × Kind) (start before after : List Entry) → i < length keys
+    → before ≡ start ++ entries_of n (take i keys) → after ≡ before ++ entry n (get_or keys i d) ∷ []
+    → after ≡ start ++ entries_of n (take (i + 1) keys)
+kept-next n keys i d start before after inside was is =
+    is ∙ ap (λ es. es ++ entry n (get_or keys i d) ∷ []) was
+    ∙ append_assoc start (entries_of n (take i keys)) (entry n (get_or keys i d) ∷ [])
+    ∙ ap (λ es. start ++ es) (sym (map_more (entry n) keys i d inside))
 
 -- whether the entry is old and has the pair
 abbrev pub goes : ℕ → Pair → Entry → Bool

@@ -15,7 +15,8 @@ entries_of number keys = map (λ key. record { number = number; key = key }) key
 
 -- the keys of commits, each with its commit's number
 abbrev pub entered : List CommitItem → List Entry
-entered commits = flat_map (λ (commit : CommitItem). entries_of commit.number commit.keys.entries) commits
+entered commits =
+    flat_map (λ (commit : CommitItem). entries_of commit.number commit.keys.entries) commits
 
 -- the greatest number of an entry that passes the test
 abbrev pub latest : (Entry → Bool) → List Entry → Option ℕ
@@ -36,7 +37,8 @@ meets test keys e =
 
 -- the greatest commit above what was last seen that conflicts with these keys
 abbrev pub latest_conflict : List Entry → ℕ → List (Parts × Kind) → Option ℕ
-latest_conflict entries last_seen keys = latest (meets kinds_conflict keys) (above last_seen entries)
+latest_conflict entries last_seen keys =
+    latest (meets kinds_conflict keys) (above last_seen entries)
 
 -- the greatest commit that touches these keys
 abbrev pub latest_touch : List Entry → List (Parts × Kind) → Option ℕ

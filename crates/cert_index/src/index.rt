@@ -1,10 +1,11 @@
-ghost use Rattle.std.specs.Prelude.{◌≡◌, ◌+◌, ◌*◌, ◌≤◌, ◌++◌, [], ◌∷◌, cond, length, None, IfOk, OnOk, OnErr, IsOk};
+ghost use Rattle.std.specs.Prelude.{◌≡◌, ◌+◌, ◌*◌, ◌<◌, ◌≤◌, ◌++◌, [], ◌∷◌, cond, length, None, IfOk, OnOk, OnErr, IsOk};
 ghost use Rattle.finite_map.specs.FiniteMap.{len};
 ghost use Rattle.key_sets.specs.Keys.{table_pair};
 ghost use Rattle.key_sets.specs.Probes.{kind_test};
 ghost use Rattle.key_sets.specs.declared.relation.Relation.TheVariants.{Conflict};
 ghost use Rattle.cert_meaning.specs.Extremes.{greater};
 ghost use Rattle.cert_index.specs.Index.{above, entries_of, latest, latest_conflict, latest_touch, meets, only_above, AreUpTo};
+ghost use Rattle.cert_index.specs.Count.{latest_of};
 ghost use Rattle.cert_index.specs.Pairs.{is_at};
 ghost use Rattle.cert_index.specs.Table.{kinds_met, one_if, pair_meets};
 
@@ -14,8 +15,8 @@ use crate::table::{drop_old, enter_all};
 use key_sets::{Kind, Parts, Relation};
 use std::alloc::Global;
 use std::collections::{HashMap, VecDeque};
-use std::marker::Model;
-use std::sync::ledger::Ledger;
+use std::marker::{Brand, Model};
+use std::sync::ledger::{Blank, Ledger};
 use wsrep_base::{NoMemory, Steps};
 
 /// The keys of commits, each with its commit's number, and for each kind at each parts the latest
@@ -66,11 +67,18 @@ impl Index {
     }
 
     /// The greatest commit whose keys touch these.
-    pub fn dependency<L: Ledger>(&self, keys: &[(Parts, Kind)], steps: &mut Steps<L>) -> Option<u64>
-        ensures latest { result ≡ latest_touch self.now keys.now }
-        ensures steps { steps.new ≤ steps.old + 5 * length keys.now }
+    pub fn dependency(&self, keys: &[(Parts, Kind)]) -> Option<u64>
+        ensures { result ≡ latest_touch self.now keys.now }
     {
-        self.met(Relation::Touch, keys, steps)
+        self.touched::<Brand>(keys, Blank::new(1))
+    }
+
+    /// The number of the kinds at parts that the keys have, each counted once. A key of a row has
+    /// two: its own, and shared at its table.
+    pub fn entries(&self) -> u64
+        ensures { result ≡ len (latest_of self.now) }
+    {
+        self.latest.len() as u64
     }
 
     /// Enters the keys of a commit, whose number no commit that was entered is above. It costs
@@ -91,6 +99,17 @@ impl Index {
         ensures { self.new ≡ above to self.old }
     {
         drop_old(&mut self.latest, &mut self.kept, to);
+    }
+
+    // The greatest commit whose keys touch these, with the counter made that nobody reads.
+    fn touched<L: Ledger>(&self, keys: &[(Parts, Kind)], blank: Blank) -> Option<u64>
+        requires name { blank.name ≡ L.name }
+        requires parts { blank.parts ≡ L.parts }
+        requires some { 0 < blank.parts }
+        ensures { result ≡ latest_touch self.now keys.now }
+    {
+        let mut steps = Steps::<L>::new(blank);
+        self.met(Relation::Touch, keys, &mut steps)
     }
 
     // The greatest commit whose keys are so related to these.
@@ -138,7 +157,8 @@ impl Index {
         kind: Kind,
         steps: &mut Steps<L>,
     ) -> Option<u64>
-        ensures latest { result ≡ latest (pair_meets (kind_test relation) (parts, kind)) self.now }
+        ensures latest { result
+            ≡ latest (pair_meets (kind_test relation) (parts, kind)) self.now }
         ensures steps { steps.new ≡ steps.old + kinds_met relation kind }
     {
         let shared = self.met_if(relation, parts, Kind::Shared, kind, steps);

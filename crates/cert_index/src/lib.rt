@@ -4,8 +4,10 @@
 
 mod entry;
 mod index;
+mod laws;
 mod pair;
 mod table;
 
 pub use entry::Entry;
 pub use index::Index;
+pub use laws::index_laws;
