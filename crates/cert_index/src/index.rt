@@ -12,7 +12,7 @@ ghost use Rattle.cert_index.specs.Table.{kinds_met, one_if, pair_meets};
 use crate::entry::Entry;
 use crate::pair::Pair;
 use crate::table::{drop_old, enter_all};
-use key_sets::{Kind, Parts, Relation};
+use key_sets::{KeySet, Kind, Parts, Relation};
 use std::alloc::Global;
 use std::collections::{HashMap, VecDeque};
 use std::marker::{Brand, Model};
@@ -83,11 +83,13 @@ impl Index {
 
     /// Enters the keys of a commit, whose number no commit that was entered is above. It costs
     /// what is entered.
-    pub fn enter(&mut self, number: u64, keys: &[(Parts, Kind)]) -> Result<(), NoMemory>
+    pub fn enter(&mut self, number: u64, keys: &KeySet) -> Result<(), NoMemory>
         requires up_to { AreUpTo number self.old }
-        ensures ok { OnOk result (self.new ≡ self.old ++ entries_of number keys.now) }
+        ensures ok { OnOk result (self.new ≡ self.old ++ entries_of number keys.now.entries) }
         ensures err { OnErr result (self.new ≡ self.old) }
     {
+        let list = keys.sorted()?;
+        let keys = list.as_slice();
         self.latest.reserve(2 * keys.len())?;
         self.kept.reserve(keys.len())?;
         enter_all(&mut self.latest, &mut self.kept, number, keys);
