@@ -1,6 +1,5 @@
 ghost use Rattle.std.specs.Prelude.{◌≡◌, ◌+◌, ◌*◌, ◌<◌, ◌≤◌, ◌++◌, [], ◌∷◌, cond, length, None, IfOk, OnOk, OnErr, IsOk};
 ghost use Rattle.finite_map.specs.FiniteMap.{len};
-ghost use Rattle.key_sets.specs.Keys.{table_pair};
 ghost use Rattle.key_sets.specs.Probes.{kind_test};
 ghost use Rattle.key_sets.specs.declared.relation.Relation.TheVariants.{Conflict};
 ghost use Rattle.cert_meaning.specs.Extremes.{greater};
