@@ -33,14 +33,18 @@ abbrev pub needed : ℕ → FoldState → FoldState
 needed above s = record s { rows = empty; commits = commits_above above s.commits }
 
 -- the changes of each passed commit that is certified and not committed
-pub record KeepsChanges (order : List Event) (committed certified : ℕ) (changes : FiniteMap nat_cmp (List Op)) : Type 0 where
-  pub kept : (number : ℕ) → committed < number → number ≤ certified → IsTrue (is_some (commit_at order number))
+pub record KeepsChanges (order : List Event) (committed certified : ℕ)
+    (changes : FiniteMap nat_cmp (List Op)) : Type 0 where
+  pub kept : (number : ℕ) → committed < number → number ≤ certified
+      → IsTrue (is_some (commit_at order number))
       → get changes number ≡ Some (ops_at order number)
-  pub only : (number : ℕ) → IsTrue (contains_key changes number) → (committed < number) × (number ≤ certified)
+  pub only : (number : ℕ) → IsTrue (contains_key changes number)
+      → (committed < number) × (number ≤ certified)
 
--- it stands for the state of the order, of which nothing is missing that is asked for: commits above what is committed, and
--- those against which a write set is tested that is not stale
-pub record Certifies (order : List Event) (committed certified : ℕ) (c : ModelCertification) : Type 0 where
+-- it stands for the state of the order, of which nothing is missing that is asked for: commits
+-- above what is committed, and those against which a write set is tested that is not stale
+pub record Certifies (order : List Event) (committed certified : ℕ)
+    (c : ModelCertification) : Type 0 where
   pub within : certified ≤ length order
   pub has_ahead : c.dropped ≤ committed
   pub has_tested : c.dropped ≤ (state_at order certified).floor
@@ -56,7 +60,8 @@ pub record CanCertify (c : ModelCertification) : Type 0 where
   pub fits : certified + 1 < 2 ^ 64
 
 -- the next event of the order is certified
-pub record IsNext (order : List Event) (committed certified : ℕ) (e : Event) (became : Judged) (c : ModelCertification) : Type 0 where
+pub record IsNext (order : List Event) (committed certified : ℕ) (e : Event) (became : Judged)
+    (c : ModelCertification) : Type 0 where
   pub judged : became ≡ judged (state_at order certified) e
   pub certifies : Certifies order committed (certified + 1) c
 
@@ -67,7 +72,8 @@ commit_with number c = commit_numbered number c.state.commits
 
 -- the greatest passed commit between two numbers whose keys touch
 unfoldable pub touching_between : ℕ → ℕ → Keys → ModelCertification → Option ℕ
-touching_between above below keys c = greatest_related touches (commits_below below c.state.commits) above keys
+touching_between above below keys c =
+    greatest_related touches (commits_below below c.state.commits) above keys
 
 -- the changes of the passed commit with a number
 unfoldable pub changes_with : ℕ → ModelCertification → Option (List Op)
@@ -78,7 +84,8 @@ unfoldable pub holder_of : TrxId → Keys → ModelCertification → Option ℕ
 holder_of trx keys c = held_by c.state trx keys
 
 -- a commit's changes are kept until it is committed
-abbrev pub with_changes : Judged → FiniteMap nat_cmp (List Op) → ℕ → List Op → FiniteMap nat_cmp (List Op)
+abbrev pub with_changes : Judged → FiniteMap nat_cmp (List Op) → ℕ → List Op
+    → FiniteMap nat_cmp (List Op)
 with_changes became.View ops number changes = ops
 with_changes became.Report ops number changes = ops
 with_changes became.Commit ops number changes = insert ops number changes

@@ -54,8 +54,11 @@ impl Certification {
     /// Certifies the next event of the order. It costs the commits above what a write set has seen.
     pub fn certify(&mut self, event: &Event) -> Result<Certified, NoMemory>
         requires { CanCertify self.old }
-        ensures ok { IfOk result (λ told. (order : List Ordered) (committed certified : ℕ) → Certifies order committed certified self.old
-            → committed ≤ certified → slice_get order certified ≡ Some event.now → IsNext order committed certified event.now told.judged self.new) }
+        ensures ok { IfOk result
+            (λ told. (order : List Ordered) (committed certified : ℕ)
+            → Certifies order committed certified self.old
+            → committed ≤ certified → slice_get order certified ≡ Some event.now
+            → IsNext order committed certified event.now told.judged self.new) }
         ensures set { IfOk result (λ told. told.set ≡ set_in event.now) }
         ensures err { OnErr result (self.new ≡ self.old) }
     {
@@ -71,7 +74,8 @@ impl Certification {
 
     /// The number is committed, which is the next one.
     pub fn commit(&mut self, number: u64)
-        ensures { (order : List Ordered) (committed certified : ℕ) → Certifies order committed certified self.old
+        ensures { (order : List Ordered) (committed certified : ℕ)
+            → Certifies order committed certified self.old
             → number ≡ committed + 1 → Certifies order number certified self.new }
     {
         self.passed.remove(number);

@@ -30,25 +30,30 @@ abbrev pub cluster_of : List Event → List ModelNode → ModelCluster
 cluster_of order nodes = record { order = order; nodes = nodes }
 
 -- a step of the seat is the model's step in each cluster in which its node stands
-pub record Acted (a : Act) (before now : List Event) (old new : Seat) (answer : Answer) : Type 0 where
+pub record Acted (a : Act) (before now : List Event) (old new : Seat)
+    (answer : Answer) : Type 0 where
   pub same : (nodes : List ModelNode) (i : ℕ) → slice_get nodes i ≡ Some (plain_of old.node)
-      → (answer, cluster_of now (set_at nodes i (plain_of new.node))) ≡ step_of (cluster_of before nodes) i (plain_of old.node) a
+      → (answer, cluster_of now (set_at nodes i (plain_of new.node)))
+      ≡ step_of (cluster_of before nodes) i (plain_of old.node) a
   pub goes : Goes before now new
 
 -- these steps lead from the one to the other
 pub record Runs (acts : List Act) (before now : List Event) (old new : ModelNode) : Type 0 where
   pub is : (nodes : List ModelNode) (node : ℕ) → slice_get nodes (node - 1) ≡ Some old
-      → cluster_of now (set_at nodes (node - 1) new) ≡ after_acts (cluster_of before nodes) node acts
+      → cluster_of now (set_at nodes (node - 1) new)
+      ≡ after_acts (cluster_of before nodes) node acts
 
 -- of these steps those before this one were done, and it was not
-pub record Stops (acts : List Act) (before now : List Event) (old new : ModelNode) (next : Act) : Type 0 where
+pub record Stops (acts : List Act) (before now : List Event) (old new : ModelNode)
+    (next : Act) : Type 0 where
   pub done : List Act
   pub rest : List Act
   pub front : acts ≡ done ++ next ∷ rest
   pub ran : Runs done before now old new
 
 -- and it may come to this fault there
-pub record Halts (acts : List Act) (before now : List Event) (old new : Seat) (fault : StepFault) : Type 0 where
+pub record Halts (acts : List Act) (before now : List Event) (old new : Seat)
+    (fault : StepFault) : Type 0 where
   pub next : Act
   pub stops : Stops acts before now (plain_of old.node) (plain_of new.node) next
   pub may : MayFail now (plain_of new.node) next fault
@@ -59,7 +64,8 @@ Left act.Drain before now old new next = Stops (drain_acts before old) before no
 Left other before now old new next = (next ≡ other) × (now ≡ before) × (new ≡ old)
 
 -- a step that could not be done
-pub record Failed (a : Act) (before now : List Event) (old new : Seat) (fault : StepFault) : Type 0 where
+pub record Failed (a : Act) (before now : List Event) (old new : Seat)
+    (fault : StepFault) : Type 0 where
   pub next : Act
   pub left : Left a before now (plain_of old.node) (plain_of new.node) next
   pub may : MayFail now (plain_of new.node) next fault

@@ -21,18 +21,21 @@ pub record Sent (count : ℕ) (before now : List Event) (old new : Seat) : Type 
   pub goes : Goes before now new
 
 -- not all of them were
-pub record SentFew (count : ℕ) (before now : List Event) (old new : Seat) (fault : StepFault) : Type 0 where
+pub record SentFew (count : ℕ) (before now : List Event) (old new : Seat)
+    (fault : StepFault) : Type 0 where
   pub halts : Halts (replicate count act.Order) before now old new fault
   pub goes : Goes before now new
 
 -- these steps were done, which lead to this node
-pub record Part (acts : List Act) (order : List Event) (to : ModelNode) (old new : Seat) : Type 0 where
+pub record Part (acts : List Act) (order : List Event) (to : ModelNode)
+    (old new : Seat) : Type 0 where
   pub plain : plain_of new.node ≡ to
   pub ran : Runs acts order order (plain_of old.node) (plain_of new.node)
   pub seated : IsSeated order new
 
 -- not all of them were
-pub record PartDone (acts : List Act) (order : List Event) (old new : Seat) (fault : StepFault) : Type 0 where
+pub record PartDone (acts : List Act) (order : List Event) (old new : Seat)
+    (fault : StepFault) : Type 0 where
   pub halts : Halts acts order order old new fault
   pub seated : IsSeated order new
 
@@ -44,7 +47,9 @@ certify_next order n = (certify_step order n).1
 
 -- so many events were taken
 abbrev pub Takes : ℕ → List Event → Seat → Seat → Type 0
-Takes count order old new = Part (replicate count act.Take) order (times count (take_next order) (plain_of old.node)) old new
+Takes count order old new =
+    Part (replicate count act.Take) order
+    (times count (take_next order) (plain_of old.node)) old new
 
 abbrev pub TakesFew : ℕ → List Event → Seat → Seat → StepFault → Type 0
 TakesFew count order old new fault = PartDone (replicate count act.Take) order old new fault
@@ -52,15 +57,19 @@ TakesFew count order old new fault = PartDone (replicate count act.Take) order o
 -- so many events were certified, over every order over which the seat stands
 abbrev pub Certifies : ℕ → Seat → Seat → Type 0
 Certifies count old new = (order : List Event) → IsSeated order old
-    → Part (replicate count act.Certify) order (times count (certify_next order) (plain_of old.node)) old new
+    → Part (replicate count act.Certify) order
+    (times count (certify_next order) (plain_of old.node)) old new
 
 abbrev pub CertifiesFew : ℕ → Seat → Seat → StepFault → Type 0
-CertifiesFew count old new fault = (order : List Event) → IsSeated order old → PartDone (replicate count act.Certify) order old new fault
+CertifiesFew count old new fault =
+    (order : List Event) → IsSeated order old
+    → PartDone (replicate count act.Certify) order old new fault
 
 -- so many numbers were committed
 abbrev pub Commits : ℕ → Seat → Seat → Type 0
 Commits count old new = (order : List Event) → IsSeated order old
-    → Part (commit_acts order count (plain_of old.node)) order (times count (commit_next order) (plain_of old.node)) old new
+    → Part (commit_acts order count (plain_of old.node)) order
+    (times count (commit_next order) (plain_of old.node)) old new
 
 abbrev pub CommitsFew : ℕ → Seat → Seat → StepFault → Type 0
 CommitsFew count old new fault = (order : List Event) → IsSeated order old

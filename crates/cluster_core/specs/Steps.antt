@@ -16,7 +16,8 @@ has_session (act.Client session call) = (1 ≤ session) × (session ≤ 32)
 has_session other = Unit {0}
 
 -- ---- where a step of a node may come to a fault
--- to a fault of the group, where it asks the group: ordering a message that waits, and taking, where the node is connected
+-- to a fault of the group, where it asks the group: ordering a message that waits, and taking,
+-- where the node is connected
 abbrev pub Asks : ModelNode → Act → Type 0
 Asks n act.Order = 0 < length n.outbox
 Asks n act.Take = IsTrue (is_connected n.at.phase)
@@ -40,10 +41,12 @@ abbrev pub MayFailAt : List Event → Option ModelNode → Act → StepFault →
 MayFailAt order None a e = ⊥
 MayFailAt order (Some n) a e = MayFail order n a e
 
--- what a step that came to a fault leaves; the step that could not be done may come to that fault there
+-- what a step that came to a fault leaves; the step that could not be done may come to that fault
+-- there
 abbrev pub FailedBy : Act → ℕ → ModelCluster → ModelCluster → StepFault → Type 0
 FailedBy a node old new e =
-    (next : Act) × StoppedAt a node old new next × MayFailAt new.order (slice_get new.nodes (node - 1)) next e
+    (next : Act) × StoppedAt a node old new next
+    × MayFailAt new.order (slice_get new.nodes (node - 1)) next e
 
 -- ---- causes
 abbrev pub fault_cause : ℕ → ℕ → StepFault → Type 0

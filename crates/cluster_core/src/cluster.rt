@@ -36,7 +36,11 @@ impl<G: Group> Model for Cluster<G> {
 
     ghost Value = { ClusterState };
 
-    ghost view = { λ c. record { model = record { order = G.order c.group; nodes = nodes_of c.seats.items }; faults = G.faults c.group } };
+    ghost view = { λ c.
+        record {
+          model = record { order = G.order c.group; nodes = nodes_of c.seats.items };
+          faults = G.faults c.group;
+        } };
 
     ghost invariant = { λ c. AreKept (G.order c.group) c.seats.items };
 }
@@ -74,17 +78,22 @@ impl<G: Group> Cluster<G> {
         requires node { (1 ≤ step.now.node) × (step.now.node ≤ length self.old.model.nodes) }
         requires session { has_session step.now.act }
         requires names { IsTrue (step_fits step.now) }
-        requires events { length self.old.model.order + will_order self.old.model step.now ≤ 500_000 }
+        requires events { length self.old.model.order + will_order self.old.model step.now
+            ≤ 500_000 }
         requires counts { given self.old.model < 2 ^ 63 }
-        ensures ok { IfOk result (λ answer. (answer, self.new.model) ≡ cluster_step self.old.model step.now) }
+        ensures ok { IfOk result
+            (λ answer. (answer, self.new.model) ≡ cluster_step self.old.model step.now) }
         // It stopped at a step that may come to this fault, and left what was done before it.
-        ensures err { IfErr result (FailedBy step.now.act step.now.node self.old.model self.new.model) }
+        ensures err { IfErr result
+            (FailedBy step.now.act step.now.node self.old.model self.new.model) }
         ensures cause { HasGroupCause self.old.faults self.new.faults result }
         // The count is that of a group, so it never rises where no group of the type fails.
         ensures group { (g : G) × (self.new.faults ≡ G.faults g) }
         ensures counts { given self.new.model ≤ given self.old.model + 1 }
         ensures nodes { length self.new.model.nodes ≡ length self.old.model.nodes }
-        ensures events { OnOk result (length self.new.model.order ≡ length self.old.model.order + will_order self.old.model step.now) }
+        ensures events { OnOk result
+            (length self.new.model.order
+            ≡ length self.old.model.order + will_order self.old.model step.now) }
     {
         let at = usize::from(step.node) - 1;
         step_at(&mut self.seats, at, &mut self.group, &step.act)
@@ -136,8 +145,10 @@ ghost use Rattle.cluster_core.specs.Acts.{nodes_of};
 fn seats_of(alloc: Global, id: StateId, nodes: u8, gcache: u64) -> Result<Vec<Seat>, NoMemory>
     requires id { id ≢ nil_id }
     requires ring { gcache ≤ 16_777_216 }
-    ensures nodes { IfOk result (λ seats. nodes_of seats.items ≡ map (start_node id) (up_to nodes)) }
-    ensures seated { IfOk result (λ seats. (order : List Ordered) → AllByRecursion (IsSeated order) seats.items) }
+    ensures nodes { IfOk result
+        (λ seats. nodes_of seats.items ≡ map (start_node id) (up_to nodes)) }
+    ensures seated { IfOk result
+        (λ seats. (order : List Ordered) → AllByRecursion (IsSeated order) seats.items) }
 {
     let mut seats = Vec::new(alloc);
     for before in 0..nodes {

@@ -20,10 +20,13 @@ use wsrep_base::NoMemory;
 /// the way leaves what was done before it.
 pub(crate) fn drain<G: Group>(seat: &mut Seat, group: &mut G) -> Result<Answer, StepFault>
     requires kept { IsKept (G.order group.old) seat.old }
-    requires events { length (G.order group.old) + node_orders act.Drain (plain_of seat.old.node) ≤ 500_000 }
+    requires events { length (G.order group.old) + node_orders act.Drain (plain_of seat.old.node)
+        ≤ 500_000 }
     requires counts { CanGoOn (plain_of seat.old.node) }
-    ensures ok { IfOk result (Acted act.Drain (G.order group.old) (G.order group.new) seat.old seat.new) }
-    ensures err { IfErr result (Failed act.Drain (G.order group.old) (G.order group.new) seat.old seat.new) }
+    ensures ok { IfOk result
+        (Acted act.Drain (G.order group.old) (G.order group.new) seat.old seat.new) }
+    ensures err { IfErr result
+        (Failed act.Drain (G.order group.old) (G.order group.new) seat.old seat.new) }
     ensures cause { HasGroupCause (G.faults group.old) (G.faults group.new) result }
 {
     let waiting = seat.node.place().outbox;
@@ -41,8 +44,10 @@ pub(crate) fn drain<G: Group>(seat: &mut Seat, group: &mut G) -> Result<Answer, 
 fn order_all<G: Group>(seat: &mut Seat, group: &mut G, count: u64) -> Result<(), StepFault>
     requires kept { IsKept (G.order group.old) seat.old }
     requires events { length (G.order group.old) + length seat.old.node.queue.outbox ≤ 500_000 }
-    ensures ok { OnOk result (Sent count (G.order group.old) (G.order group.new) seat.old seat.new) }
-    ensures err { IfErr result (SentFew count (G.order group.old) (G.order group.new) seat.old seat.new) }
+    ensures ok { OnOk result
+        (Sent count (G.order group.old) (G.order group.new) seat.old seat.new) }
+    ensures err { IfErr result
+        (SentFew count (G.order group.old) (G.order group.new) seat.old seat.new) }
     ensures cause { HasGroupCause (G.faults group.old) (G.faults group.new) result }
 {
     for _ in 0..count {

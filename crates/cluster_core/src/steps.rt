@@ -24,11 +24,16 @@ pub(crate) fn step_at<G: Group>(
     requires at { at < length seats.old.items }
     requires kept { AreKept (G.order group.old) seats.old.items }
     requires act { has_session act.now × IsTrue (act_fits act.now) }
-    requires events { length (G.order group.old) + orders_at (slice_get (nodes_of seats.old.items) at) act.now ≤ 500_000 }
-    requires counts { (n : ModelNode) → slice_get (nodes_of seats.old.items) at ≡ Some n → CanGoOn n }
-    ensures ok { IfOk result (λ answer. (answer, cluster_of (G.order group.new) (nodes_of seats.new.items))
-        ≡ step_at (cluster_of (G.order group.old) (nodes_of seats.old.items)) at (slice_get (nodes_of seats.old.items) at) act.now) }
-    ensures err { IfErr result (FailedBy act.now (at + 1) (cluster_of (G.order group.old) (nodes_of seats.old.items))
+    requires events { length (G.order group.old) + orders_at
+        (slice_get (nodes_of seats.old.items) at) act.now ≤ 500_000 }
+    requires counts { (n : ModelNode) → slice_get (nodes_of seats.old.items) at ≡ Some n
+        → CanGoOn n }
+    ensures ok { IfOk result
+        (λ answer. (answer, cluster_of (G.order group.new) (nodes_of seats.new.items))
+        ≡ step_at (cluster_of (G.order group.old) (nodes_of seats.old.items)) at
+        (slice_get (nodes_of seats.old.items) at) act.now) }
+    ensures err { IfErr result
+        (FailedBy act.now (at + 1) (cluster_of (G.order group.old) (nodes_of seats.old.items))
         (cluster_of (G.order group.new) (nodes_of seats.new.items))) }
     ensures kept { AreKept (G.order group.new) seats.new.items }
     ensures cause { HasGroupCause (G.faults group.old) (G.faults group.new) result }
@@ -44,10 +49,13 @@ pub(crate) fn step_on<G: Group>(
 ) -> Result<Answer, StepFault>
     requires kept { IsKept (G.order group.old) seat.old }
     requires act { has_session act.now × IsTrue (act_fits act.now) }
-    requires events { length (G.order group.old) + node_orders act.now (plain_of seat.old.node) ≤ 500_000 }
+    requires events { length (G.order group.old) + node_orders act.now (plain_of seat.old.node)
+        ≤ 500_000 }
     requires counts { CanGoOn (plain_of seat.old.node) }
-    ensures ok { IfOk result (Acted act.now (G.order group.old) (G.order group.new) seat.old seat.new) }
-    ensures err { IfErr result (Failed act.now (G.order group.old) (G.order group.new) seat.old seat.new) }
+    ensures ok { IfOk result
+        (Acted act.now (G.order group.old) (G.order group.new) seat.old seat.new) }
+    ensures err { IfErr result
+        (Failed act.now (G.order group.old) (G.order group.new) seat.old seat.new) }
     ensures cause { HasGroupCause (G.faults group.old) (G.faults group.new) result }
 {
     match act {
@@ -70,9 +78,12 @@ pub(crate) fn step_on<G: Group>(
 /// The oldest message that waits takes the next number of the order.
 pub(crate) fn order_first<G: Group>(seat: &mut Seat, group: &mut G) -> Result<Answer, StepFault>
     requires kept { IsKept (G.order group.old) seat.old }
-    requires events { length (G.order group.old) + node_orders act.Order (plain_of seat.old.node) ≤ 500_000 }
-    ensures ok { IfOk result (Acted act.Order (G.order group.old) (G.order group.new) seat.old seat.new) }
-    ensures err { IfErr result (Failed act.Order (G.order group.old) (G.order group.new) seat.old seat.new) }
+    requires events { length (G.order group.old) + node_orders act.Order (plain_of seat.old.node)
+        ≤ 500_000 }
+    ensures ok { IfOk result
+        (Acted act.Order (G.order group.old) (G.order group.new) seat.old seat.new) }
+    ensures err { IfErr result
+        (Failed act.Order (G.order group.old) (G.order group.new) seat.old seat.new) }
     ensures cause { HasGroupCause (G.faults group.old) (G.faults group.new) result }
 {
     let member = seat.node.place().member;
@@ -89,8 +100,10 @@ pub(crate) fn order_first<G: Group>(seat: &mut Seat, group: &mut G) -> Result<An
 pub(crate) fn take_next<G: Group>(seat: &mut Seat, group: &mut G) -> Result<Answer, StepFault>
     requires kept { IsKept (G.order group.old) seat.old }
     requires events { length (G.order group.old) ≤ 500_000 }
-    ensures ok { IfOk result (Acted act.Take (G.order group.old) (G.order group.new) seat.old seat.new) }
-    ensures err { IfErr result (Failed act.Take (G.order group.old) (G.order group.new) seat.old seat.new) }
+    ensures ok { IfOk result
+        (Acted act.Take (G.order group.old) (G.order group.new) seat.old seat.new) }
+    ensures err { IfErr result
+        (Failed act.Take (G.order group.old) (G.order group.new) seat.old seat.new) }
     ensures cause { HasGroupCause (G.faults group.old) (G.faults group.new) result }
 {
     if !seat.node.is_connected() {

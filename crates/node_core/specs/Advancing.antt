@@ -27,15 +27,19 @@ pub record TakesUnit (number : ℕ) (old new : Node) : Type 0 where
   pub rest : new ≡ record old { units = new.units; locks = new.locks; rows = new.rows }
   pub units : new.units ≡ without old.units number
   pub locks : new.locks.locks ≡ remove old.locks.locks (UnitHolder number)
-  pub finished : is_some (done_of (get old.units.work number)) ≡ is_finished (get old.units.units number)
-  pub committed : new.rows.committed ≡ put_all (results_of (done_of (get old.units.work number))) old.rows.committed
+  pub finished : is_some (done_of (get old.units.work number))
+      ≡ is_finished (get old.units.units number)
+  pub committed : new.rows.committed
+      ≡ put_all (results_of (done_of (get old.units.work number))) old.rows.committed
   pub changes : new.rows.changes ≡ old.rows.changes
-  pub spare : old.rows.spare ≤ new.rows.spare + length (results_of (done_of (get old.units.work number)))
+  pub spare : old.rows.spare
+      ≤ new.rows.spare + length (results_of (done_of (get old.units.work number)))
   pub rows : rows_of (get old.units.work number) ≤ old.units.room
 
 -- the session's transaction ends and its changes become committed
 pub record IsCommitted (session number : ℕ) (old new : Node) : Type 0 where
-  pub rest : new ≡ record old { live = new.live; waiting = new.waiting; locks = new.locks; rows = new.rows }
+  pub rest : new
+      ≡ record old { live = new.live; waiting = new.waiting; locks = new.locks; rows = new.rows }
   pub live : new.live ≡ remove old.live session
   pub waiting : new.waiting ≡ insert old.waiting session (reply.Committed number)
   pub locks : new.locks.locks ≡ remove old.locks.locks (Session session)

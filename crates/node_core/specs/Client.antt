@@ -20,7 +20,8 @@ closed_by at live =
     else if is_joining at.phase || nat_lt at.committed at.view then Some reply.NotSynced
     else None
 
--- a commit is sent, unless there is no transaction, or one that changed nothing and never sent a fragment
+-- a commit is sent, unless there is no transaction, or one that changed nothing and never sent a
+-- fragment
 abbrev pub sends_commit : Option Live → Bool
 sends_commit None = false
 sends_commit (Some t) = not (length t.ops == 0 && t.sent == 0)
@@ -51,10 +52,12 @@ of_row None (Some (op.Update id change)) = Some reply.NoRow
 of_row None (Some (op.Delete id)) = Some reply.NoRow
 of_row (Some row) None = None
 of_row (Some row) (Some (op.Insert id values)) = Some reply.Duplicate
-of_row (Some row) (Some (op.Update id change)) = option_map reply.NoColumn (missing_column (Some (op.Update id change)) (Some row))
+of_row (Some row) (Some (op.Update id change)) =
+    option_map reply.NoColumn (missing_column (Some (op.Update id change)) (Some row))
 of_row (Some row) (Some (op.Delete id)) = None
 
 -- what is held comes first, then who has locks, then the row
 abbrev pub hindrance : Option ℕ → Option Holder → Option (List ℕ) → Option Op → Option Reply
 hindrance held blocker row change =
-    first_line (option_map reply.HeldBy held ∷ option_map busy_reply blocker ∷ of_row row change ∷ [])
+    first_line
+    (option_map reply.HeldBy held ∷ option_map busy_reply blocker ∷ of_row row change ∷ [])

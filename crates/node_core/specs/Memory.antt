@@ -9,10 +9,12 @@ use Rattle.node_meaning.specs.Node.{ModelNode, is_connected}
 use Rattle.node_meaning.specs.Steps.{start_step}
 use Rattle.node_core.specs.Client.{closed_by, takes_memory}
 
--- a session's call, where no answer waits for it, no rule before the table of calls answers it, and the table takes memory
+-- a session's call, where no answer waits for it, no rule before the table of calls answers it, and
+-- the table takes memory
 abbrev pub CallWants : ModelNode → ℕ → Call → Type 0
 CallWants n session call =
-    (get n.waiting session ≡ None) × (closed_by n.at (get n.live session) ≡ None) × IsTrue (takes_memory (get n.live session) call)
+    (get n.waiting session ≡ None) × (closed_by n.at (get n.live session) ≡ None)
+    × IsTrue (takes_memory (get n.live session) call)
 
 -- taking an event, where the node is connected
 abbrev pub TakeWants : ModelNode → Type 0

@@ -52,14 +52,17 @@ pub record Stands (order : List Event) (node : Node) : Type 0 where
   pub tables : Tables order node
   pub facts : Facts order (plain_of node)
 
--- a call over one order: its answer and the model node after it are the model's, and the node stands
-pub record DoneOver {A : Type 0} (order : List Event) (f : ModelNode → A × ModelNode) (old new : Node) (answer : A) : Type 0 where
+-- a call over one order: its answer and the model node after it are the model's, and the node
+-- stands
+pub record DoneOver {A : Type 0} (order : List Event) (f : ModelNode → A × ModelNode)
+    (old new : Node) (answer : A) : Type 0 where
   pub same : (answer, plain_of new) ≡ f (plain_of old)
   pub stands : Stands order new
 
 -- a call does what the model does, over every order for which the node stands
 abbrev pub Does : {A : Type 0} → (List Event → ModelNode → A × ModelNode) → Node → Node → A → Type 0
-Does f old new answer = (order : List Event) → Stands order old → DoneOver order (f order) old new answer
+Does f old new answer =
+    (order : List Event) → Stands order old → DoneOver order (f order) old new answer
 
 -- a call without an answer
 abbrev pub quietly : (ModelNode → ModelNode) → List Event → ModelNode → Unit {0} × ModelNode

@@ -27,7 +27,8 @@ use Rattle.node_core.specs.Answers.{started_answer, GivesTask}
 use Rattle.node_core.specs.Stands.{Stands, DoneOver, plain_of}
 use Rattle.node_core.specs.Memory.{is_start}
 
--- a commit that passed and is not committed, has no unit and is no live transaction's, and is touched by none before it
+-- a commit that passed and is not committed, has no unit and is no live transaction's, and is
+-- touched by none before it
 pub record CanStart (order : List Event) (node : Node) (number : ℕ) (keys : Keys) : Type 0 where
   pub stands : Stands order node
   pub above : node.at.committed < number
@@ -37,12 +38,14 @@ pub record CanStart (order : List Event) (node : Node) (number : ℕ) (keys : Ke
   pub is_commit : commit_at order number ≡ Some (record { number = label; trx = trx; keys = keys })
   pub fresh : get node.units.units number ≡ None
   pub remote : is_local node.live number ≡ false
-  pub clear : (earlier : ℕ) (c : CommitItem) → node.at.committed < earlier → earlier < number → commit_at order earlier ≡ Some c
+  pub clear : (earlier : ℕ) (c : CommitItem) → node.at.committed < earlier → earlier < number
+      → commit_at order earlier ≡ Some c
       → touches c.keys keys ≡ false
 
 -- the unit starts, and aborts who is in its way
 abbrev pub unit_started : ℕ → Keys → ModelNode → answer.the_data × ModelNode
-unit_started number keys n = started n number keys (touching_sessions (locks_of n.live n.units) keys)
+unit_started number keys n =
+    started n number keys (touching_sessions (locks_of n.live n.units) keys)
 
 -- the message of a write set
 abbrev pub written : Option WriteSet → Option Message
@@ -75,13 +78,16 @@ pub record IsStartable (order : List Event) (node : Node) (number : ℕ) (keys :
   pub is : start_step order (plain_of node) number ≡ unit_started number keys (plain_of node)
 
 -- the model starts no unit, and answers so
-pub record IsRefused (order : List Event) (node : Node) (number : ℕ) (refused : Started) : Type 0 where
-  pub done : DoneOver order (λ n. start_step order n number) node node (started_answer number refused)
+pub record IsRefused (order : List Event) (node : Node) (number : ℕ)
+    (refused : Started) : Type 0 where
+  pub done : DoneOver order (λ n. start_step order n number) node node
+      (started_answer number refused)
   pub idle : is_start (started_answer number refused) ≡ false
   pub task : GivesTask order number refused
 
 -- the unit is started over one order, and its task is given
-pub record IsStartedOver (order : List Event) (number : ℕ) (keys : Keys) (old new : Node) (given : Started) : Type 0 where
+pub record IsStartedOver (order : List Event) (number : ℕ) (keys : Keys) (old new : Node)
+    (given : Started) : Type 0 where
   pub task : GivesTask order number given
   pub done : DoneOver order (unit_started number keys) old new (started_answer number given)
 
@@ -94,6 +100,7 @@ pub record Aborts (f : ModelNode → ModelNode) (old new : Node) : Type 0 where
   pub units : new.units ≡ old.units
   pub spare : old.locks.spare ≤ new.locks.spare
   pub room : old.rows.spare ≤ new.rows.spare
-  pub locks : (older : FiniteMap nat_cmp ApplyUnit) → HoldAlike old.locks.locks (locks_of old.live older)
+  pub locks : (older : FiniteMap nat_cmp ApplyUnit)
+      → HoldAlike old.locks.locks (locks_of old.live older)
       → HoldAlike new.locks.locks (locks_of new.live older)
   pub rows : (rows : Rows) → Tabled rows old.live old.rows → Tabled rows new.live new.rows

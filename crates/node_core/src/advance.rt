@@ -21,7 +21,8 @@ impl Node {
     /// Commits the next number that was certified, if it is ready. It takes no memory.
     pub fn advance(&mut self) -> Advanced
         requires stands { IsStanding self.old }
-        ensures { Does (λ order n. advance_step order n) self.old self.new (advanced_answer result) }
+        ensures { Does (λ order n. advance_step order n) self.old self.new
+            (advanced_answer result) }
     {
         if self.at.committed == self.at.certified {
             return Advanced::Nothing;
@@ -39,7 +40,9 @@ impl Node {
 
     // Whether the number is no passed commit, or its unit is finished, or it is a live local one.
     fn is_ready(&self, number: u64) -> bool
-        ensures { result ≡ (is_none (commit_with number self.now.certification) || is_finished (get self.now.units.units number) || local self.now.live number) }
+        ensures { result
+            ≡ (is_none (commit_with number self.now.certification)
+            || is_finished (get self.now.units.units number) || local self.now.live number) }
     {
         self.certification.commit_at(number).is_none()
             || self.units.is_finished(number)
@@ -49,8 +52,12 @@ impl Node {
     // The unit with this number ends; where it is finished, its rows become the committed ones.
     fn take_unit(&mut self, number: u64)
         requires room { self.old.units.room ≤ self.old.rows.spare }
-        requires fits { IsTrue (is_finished (get self.old.units.units number)) → length (results_of (done_of (get self.old.units.work number))) ≤ rows_of (get self.old.units.work number) }
-        requires free { IsTrue (is_finished (get self.old.units.units number)) → AreFree self.old.rows.changes (results_of (done_of (get self.old.units.work number))) }
+        requires fits { IsTrue (is_finished (get self.old.units.units number))
+            → length (results_of (done_of (get self.old.units.work number)))
+            ≤ rows_of (get self.old.units.work number) }
+        requires free { IsTrue (is_finished (get self.old.units.units number))
+            → AreFree self.old.rows.changes
+            (results_of (done_of (get self.old.units.work number))) }
         ensures { TakesUnit number self.old self.new }
     {
         self.locks.release(Holder::Unit(number));

@@ -21,7 +21,8 @@ impl Node {
     /// Certifies the next event that was taken, and tells the transaction that sent it.
     pub fn certify(&mut self) -> Result<Certified, NoMemory>
         requires stands { IsStanding self.old }
-        ensures ok { IfOk result (λ r. Does (λ order n. certify_step order n) self.old self.new (certified_answer r)) }
+        ensures ok { IfOk result
+            (λ r. Does (λ order n. certify_step order n) self.old self.new (certified_answer r)) }
         ensures err { OnErr result (Unchanged self.old self.new) }
         ensures some { OnErr result (CertifyWants (plain_of self.old)) }
     {
@@ -55,7 +56,8 @@ impl Node {
 
     // The live transaction with this begin number is told the verdict on the write set it sent.
     fn tell(&mut self, number: u64, begin: u64, verdict: Verdict)
-        ensures { Moves (λ n. told_verdict n number verdict (found n.live begin)) self.old self.new }
+        ensures { Moves
+            (λ n. told_verdict n number verdict (found n.live begin)) self.old self.new }
     {
         let Some(session) = session_of(&self.live, begin) else {
             return;

@@ -25,17 +25,18 @@ impl Node {
     ghost use Rattle.node_core.specs.Memory.{CallWants};
     ghost use Rattle.node_core.specs.Stands.{IsStanding, Stands, Does, Unchanged, Moves, plain_of};
 
-    /// What a session, 1 to 32, is answered when it makes a call. An answer that waits, and one that
-    /// comes before the table of calls, takes no memory; nor do `read`, `poll`, a begin within a
-    /// transaction, a statement or a commit without one, a commit of nothing, and a `rollback` where
-    /// no fragment was ever sent.
+    /// What a session, 1 to 32, is answered when it makes a call. An answer that waits, and one
+    /// that comes before the table of calls, takes no memory; nor do `read`, `poll`, a begin within
+    /// a transaction, a statement or a commit without one, a commit of nothing, and a `rollback`
+    /// where no fragment was ever sent.
     pub fn client(&mut self, session: u8, call: &Call) -> Result<Reply, NoMemory>
         requires stands { IsStanding self.old }
         requires session { (1 ≤ session) × (session ≤ 32) }
         requires names { IsTrue (call_fits call.now) }
         requires serial { self.old.at.serial < 2 ^ 63 }
         requires begin { self.old.at.begin < 2 ^ 63 }
-        ensures ok { IfOk result (Does (λ order n. client order n session call.now) self.old self.new) }
+        ensures ok { IfOk result
+            (Does (λ order n. client order n session call.now) self.old self.new) }
         ensures err { OnErr result (Unchanged self.old self.new) }
         ensures open { OnErr result (CallWants (plain_of self.old) session call.now) }
     {
@@ -81,7 +82,9 @@ impl Node {
         requires names { IsTrue (call_fits call.now) }
         requires serial { self.old.at.serial < 2 ^ 63 }
         requires begin { self.old.at.begin < 2 ^ 63 }
-        ensures ok { IfOk result (Does (λ order n. served order n session (get n.live session) call.now) self.old self.new) }
+        ensures ok { IfOk result
+            (Does
+            (λ order n. served order n session (get n.live session) call.now) self.old self.new) }
         ensures err { OnErr result (Unchanged self.old self.new) }
         ensures takes { OnErr result (IsTrue (takes_memory (get self.old.live session) call.now)) }
     {
@@ -104,12 +107,13 @@ impl Node {
         }
     }
 
-    // A transaction begins with the next begin number. Its fragments have so many changes; with 0 it
-    // sends none.
+    // A transaction begins with the next begin number. Its fragments have so many changes; with 0
+    // it sends none.
     fn begin(&mut self, session: u8, unit: u64) -> Result<Reply, NoMemory>
         requires session { (1 ≤ session) × (session ≤ 32) }
         requires begin { self.old.at.begin < 2 ^ 63 }
-        ensures ok { IfOk result (Does (λ order n. begin_call n session unit (get n.live session)) self.old self.new) }
+        ensures ok { IfOk result
+            (Does (λ order n. begin_call n session unit (get n.live session)) self.old self.new) }
         ensures err { OnErr result (Unchanged self.old self.new) }
         ensures none { OnErr result (IsTrue (is_none (get self.old.live session))) }
     {
@@ -129,7 +133,8 @@ impl Node {
     fn read(&self, session: u8, id: &RowId) -> Reply
         requires running { is_pending (get self.now.live session) ≡ false }
         ensures { (order : List Event) → Stands order self.now
-            → result ≡ row_reply (get (seen_rows (rows_at order self.now.at.committed) (get self.now.live session)) id.now) }
+            → result ≡ row_reply (get (seen_rows (rows_at order self.now.at.committed)
+            (get self.now.live session)) id.now) }
     {
         row_reply(self.rows.seen_by(session, id))
     }
@@ -150,7 +155,8 @@ impl Node {
         requires session { (1 ≤ session) × (session ≤ 32) }
         requires running { is_pending (get self.old.live session) ≡ false }
         requires serial { self.old.at.serial < 2 ^ 63 }
-        ensures ok { IfOk result (Does (λ order n. commit_call n session (get n.live session)) self.old self.new) }
+        ensures ok { IfOk result
+            (Does (λ order n. commit_call n session (get n.live session)) self.old self.new) }
         ensures err { OnErr result (Unchanged self.old self.new) }
         ensures sends { OnErr result (IsTrue (sends_commit (get self.old.live session))) }
     {
@@ -171,7 +177,12 @@ impl Node {
     // The commit of the session's transaction is sent.
     fn commit_is_sent(&mut self, session: u8)
         requires running { is_pending (get self.old.live session) ≡ false }
-        ensures { self.new ≡ record self.old { live = with_commit self.old.live session (get self.old.live session) } }
+        ensures { self.new
+            ≡
+            record self.old {
+              live = with_commit self.old.live session
+                  (get self.old.live session);
+            } }
     {
         let Some(mut trx) = self.live.take(session) else {
             return;
@@ -183,7 +194,8 @@ impl Node {
     // The session's transaction ends; where it ever sent a fragment, a rollback is sent first.
     fn roll_back(&mut self, session: u8) -> Result<Reply, NoMemory>
         requires serial { self.old.at.serial < 2 ^ 63 }
-        ensures ok { IfOk result (Does (λ order n. rollback_call n session (get n.live session)) self.old self.new) }
+        ensures ok { IfOk result
+            (Does (λ order n. rollback_call n session (get n.live session)) self.old self.new) }
         ensures err { OnErr result (Unchanged self.old self.new) }
         ensures sends { OnErr result (IsTrue (sends_rollback (get self.old.live session))) }
     {

@@ -15,8 +15,11 @@ impl Node {
     /// Takes the work of a started unit. The value comes back where its number is no such unit.
     pub fn finish(&mut self, done: Done) -> Result<u64, Done>
         requires work { (order : List Event) → Stands order self.old
-            → IsTrue (is_started (get self.old.units.units done.number)) → done ≡ unit_task order done.number }
-        ensures ok { IfOk result (λ number. Does (λ order n. finish_step n done.number) self.old self.new (answer.Finished number)) }
+            → IsTrue (is_started (get self.old.units.units done.number))
+            → done ≡ unit_task order done.number }
+        ensures ok { IfOk result
+            (λ number. Does (λ order n. finish_step n done.number) self.old self.new
+            (answer.Finished number)) }
         ensures err { IfErr result (λ back. back ≡ done) }
         ensures none { OnErr result (is_started (get self.old.units.units done.number) ≡ false) }
         ensures same { OnErr result (self.new ≡ self.old) }

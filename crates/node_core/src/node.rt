@@ -42,8 +42,8 @@ impl Node {
     ghost use Rattle.node_meaning.specs.Steps.{sent_out};
     ghost use Rattle.node_core.specs.Stands.{IsStanding, Stands, Does, quietly, plain_of};
 
-    /// A node at its start, connected, with this state id and member number. The size of the ring of
-    /// events, in bytes, is not used yet.
+    /// A node at its start, connected, with this state id and member number. The size of the ring
+    /// of events, in bytes, is not used yet.
     pub fn new(alloc: Global, id: StateId, member: u32, _gcache: u64) -> Result<Node, NoMemory>
         requires id { id ≢ nil_id }
         requires ring { _gcache ≤ 16_777_216 }
@@ -129,14 +129,17 @@ impl Node {
 
     /// The committed row.
     pub fn committed_row(&self, id: &RowId) -> Option<Row>
-        ensures { (order : List Event) → Stands order self.now → result ≡ get (rows_at order self.now.at.committed) id.now }
+        ensures { (order : List Event) → Stands order self.now
+            → result ≡ get (rows_at order self.now.at.committed) id.now }
     {
         self.rows.committed(id)
     }
 
     /// The committed rows, by table and then by row.
     pub fn rows(&self) -> Result<RowList, NoMemory>
-        ensures { IfOk result (λ list. (order : List Event) → Stands order self.now → list ≡ row_items (rows_at order self.now.at.committed)) }
+        ensures { IfOk result
+            (λ list. (order : List Event) → Stands order self.now
+            → list ≡ row_items (rows_at order self.now.at.committed)) }
     {
         self.rows.walk()
     }

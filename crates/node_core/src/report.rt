@@ -15,7 +15,8 @@ impl Node {
     /// Reports what the node has committed: a report of it waits to be ordered. Only that takes
     /// memory.
     pub fn report(&mut self) -> Result<Reported, NoMemory>
-        ensures ok { IfOk result (λ r. Does (λ order n. report_step n) self.old self.new (reported_answer r)) }
+        ensures ok { IfOk result
+            (λ r. Does (λ order n. report_step n) self.old self.new (reported_answer r)) }
         ensures err { OnErr result (Unchanged self.old self.new) }
         ensures sends { OnErr result (ReportWants (plain_of self.old)) }
     {

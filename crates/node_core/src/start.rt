@@ -37,10 +37,15 @@ impl Node {
     pub fn start(&mut self, number: u64) -> Result<Started, NoMemory>
         requires stands { IsStanding self.old }
         requires serial { self.old.at.serial < 2 ^ 63 }
-        ensures ok { IfOk result (λ r. Does (λ order n. start_step order n number) self.old self.new (started_answer number r)) }
-        ensures task { IfOk result (λ r. (order : List Event) → Stands order self.old → GivesTask order number r) }
+        ensures ok { IfOk result
+            (λ r. Does (λ order n. start_step order n number) self.old self.new
+            (started_answer number r)) }
+        ensures task { IfOk result
+            (λ r. (order : List Event) → Stands order self.old → GivesTask order number r) }
         ensures err { OnErr result (Unchanged self.old self.new) }
-        ensures clear { OnErr result ((order : List Event) → Stands order self.old → StartWants order (plain_of self.old) number) }
+        ensures clear { OnErr result
+            ((order : List Event) → Stands order self.old
+            → StartWants order (plain_of self.old) number) }
     {
         let keys = match self.startable(number) {
             Ok(keys) => keys.copy()?,
@@ -51,15 +56,20 @@ impl Node {
 
     /// Whether the unit of the passed commit with this number can start now. It takes no memory.
     pub fn can_start(&self, number: u64) -> bool
-        ensures { (order : List Event) → Stands order self.now → result ≡ starts order (plain_of self.now) number }
+        ensures { (order : List Event) → Stands order self.now
+            → result ≡ starts order (plain_of self.now) number }
     {
         self.startable(number).is_ok()
     }
 
     // The keys of the unit that can start, or why it cannot.
     fn startable(&self, number: u64) -> Result<&KeySet, Started>
-        ensures ok { IfOk result (λ keys. (order : List Event) → Stands order self.now → IsStartable order self.now number keys.now) }
-        ensures err { IfErr result (λ refused. (order : List Event) → Stands order self.now → IsRefused order self.now number refused) }
+        ensures ok { IfOk result
+            (λ keys. (order : List Event) → Stands order self.now
+            → IsStartable order self.now number keys.now) }
+        ensures err { IfErr result
+            (λ refused. (order : List Event) → Stands order self.now
+            → IsRefused order self.now number refused) }
     {
         if number <= self.at.committed || self.units.contains(number) {
             return Err(Started::NoUnit);
@@ -84,7 +94,9 @@ impl Node {
     fn start_unit(&mut self, number: u64, keys: KeySet) -> Result<Started, NoMemory>
         requires can { (order : List Event) × CanStart order self.old number keys }
         requires serial { self.old.at.serial < 2 ^ 63 }
-        ensures ok { IfOk result (λ r. (order : List Event) → CanStart order self.old number keys → IsStartedOver order number keys self.old self.new r) }
+        ensures ok { IfOk result
+            (λ r. (order : List Event) → CanStart order self.old number keys
+            → IsStartedOver order number keys self.old self.new r) }
         ensures err { OnErr result (Unchanged self.old self.new) }
     {
         let ops = self.changes_of(number)?;
@@ -104,7 +116,11 @@ impl Node {
     ) -> Result<SessionList, NoMemory>
         requires can { (order : List Event) × CanStart order self.old number keys }
         requires serial { self.old.at.serial < 2 ^ 63 }
-        ensures ok { IfOk result (λ aborted. (order : List Event) → CanStart order self.old number keys → rows ≡ length (named_rows (ops_at order number)) → DoneOver order (unit_started number keys) self.old self.new (answer.Started number aborted)) }
+        ensures ok { IfOk result
+            (λ aborted. (order : List Event) → CanStart order self.old number keys
+            → rows ≡ length (named_rows (ops_at order number))
+            → DoneOver order (unit_started number keys) self.old self.new
+            (answer.Started number aborted)) }
         ensures err { OnErr result (Unchanged self.old self.new) }
     {
         progress_in_range(&self.at);
@@ -121,7 +137,8 @@ impl Node {
 
     // The changes of the passed commit.
     fn changes_of(&self, number: u64) -> Result<OpList, NoMemory>
-        ensures { IfOk result (λ ops. ops ≡ unwrap_or (changes_with number self.now.certification) []) }
+        ensures { IfOk result
+            (λ ops. ops ≡ unwrap_or (changes_with number self.now.certification) []) }
     {
         match self.certification.changes_of(number) {
             Some(ops) => ops.copy(),

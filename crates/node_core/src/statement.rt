@@ -44,7 +44,10 @@ impl Node {
         requires serial { self.old.at.serial < 2 ^ 63 }
         requires names { IsTrue (place_fits id.now) }
         requires change { IfSome change (IsKeyOf (row_parts id.now) kind) }
-        ensures ok { IfOk result (Does (λ order n. statement order n session (get n.live session) (record { id = id.now; kind = kind; change = change })) self.old self.new) }
+        ensures ok { IfOk result
+            (Does
+            (λ order n. statement order n session (get n.live session)
+            (record { id = id.now; kind = kind; change = change })) self.old self.new) }
         ensures err { OnErr result (Unchanged self.old self.new) }
         ensures some { OnErr result (IsTrue (is_some (get self.old.live session))) }
     {
@@ -60,7 +63,9 @@ impl Node {
 
     // What a statement of the session's transaction meets; None where it has none.
     fn meet(&self, session: u8, id: &RowId, kind: Kind) -> Result<Option<Met>, NoMemory>
-        ensures met { IfOk result (λ met. met ≡ option_map (met_at self.now session id.now kind) (get self.now.live session)) }
+        ensures met { IfOk result
+            (λ met. met
+            ≡ option_map (met_at self.now session id.now kind) (get self.now.live session)) }
         ensures some { OnErr result (IsTrue (is_some (get self.now.live session))) }
     {
         let Some(trx) = self.live.get(session) else {
@@ -89,9 +94,13 @@ impl Node {
         requires serial { self.old.at.serial < 2 ^ 63 }
         requires names { IsTrue (place_fits id.now) }
         requires change { IfSome change (IsKeyOf (row_parts id.now) kind) }
-        requires met { Some met ≡ option_map (met_at self.old session id.now kind) (get self.old.live session) }
+        requires met { Some met
+            ≡ option_map (met_at self.old session id.now kind) (get self.old.live session) }
         requires free { hindrance met.held met.blocker met.row change ≡ None }
-        ensures ok { IfOk result (Does (λ order n. statement order n session (get n.live session) (record { id = id.now; kind = kind; change = change })) self.old self.new) }
+        ensures ok { IfOk result
+            (Does
+            (λ order n. statement order n session (get n.live session)
+            (record { id = id.now; kind = kind; change = change })) self.old self.new) }
         ensures err { OnErr result (Unchanged self.old self.new) }
     {
         let parts = parts_of(id);
@@ -133,9 +142,12 @@ impl Node {
         requires serial { self.old.at.serial < 2 ^ 63 }
         requires names { IsTrue (parts_fit parts.now) }
         requires change { IfSome change (IsKeyOf parts.now kind) }
-        ensures ok { IfOk result (λ told. (t : Live) → get self.old.live session ≡ Some t → (told, self.new) ≡ told_and_put self.old session (add_by t parts.now kind change)) }
+        ensures ok { IfOk result
+            (λ told. (t : Live) → get self.old.live session ≡ Some t
+            → (told, self.new) ≡ told_and_put self.old session (add_by t parts.now kind change)) }
         ensures err { OnErr result (self.new ≡ self.old) }
-        ensures others { self.new ≡ record self.old { live = self.new.live; at = self.new.at; queue = self.new.queue } }
+        ensures others { self.new
+            ≡ record self.old { live = self.new.live; at = self.new.at; queue = self.new.queue } }
     {
         let Some(mut trx) = self.live.take(session) else {
             return Ok(Added::TooLarge);
@@ -158,7 +170,9 @@ impl Node {
         requires serial { self.old.at.serial < 2 ^ 63 }
         requires names { IsTrue (parts_fit parts.now) }
         requires change { IfSome change (IsKeyOf parts.now kind) }
-        ensures ok { IfOk result (λ told. (told, trx.new, self.new) ≡ grown_by self.old (add_by trx.old parts.now kind change)) }
+        ensures ok { IfOk result
+            (λ told. (told, trx.new, self.new)
+            ≡ grown_by self.old (add_by trx.old parts.now kind change)) }
         ensures err { OnErr result ((self.new ≡ self.old) × (trx.new ≡ trx.old)) }
         ensures others { self.new ≡ record self.old { at = self.new.at; queue = self.new.queue } }
     {
@@ -184,8 +198,10 @@ impl Node {
     fn hold(&mut self, session: u8, parts: &Parts, kind: Kind, change: &Option<Op>)
         requires locks { 1 ≤ self.old.locks.spare }
         requires rows { 1 ≤ self.old.rows.spare }
-        ensures others { self.new ≡ record self.old { locks = self.new.locks; rows = self.new.rows } }
-        ensures locks { self.new.locks.locks ≡ (granted self.old.locks.locks (Session session) parts.now kind).1 }
+        ensures others { self.new
+            ≡ record self.old { locks = self.new.locks; rows = self.new.rows } }
+        ensures locks { self.new.locks.locks
+            ≡ (granted self.old.locks.locks (Session session) parts.now kind).1 }
         ensures changes { self.new.rows.changes ≡ changes_after self.old.rows session change.now }
         ensures committed { self.new.rows.committed ≡ self.old.rows.committed }
         ensures spare { self.old.rows.spare ≤ self.new.rows.spare + 1 }

@@ -25,8 +25,10 @@ impl Node {
         requires stands { IsStanding self.old }
         requires number { self.old.at.taken < 2 ^ 63 }
         requires members { HasFewMembers event.now }
-        ensures ok { IfOk result (λ r. (order : List Ordered) → slice_get order self.old.at.taken ≡ Some event.now
-            → Stands order self.old → DoneOver order (take_step order) self.old self.new (taken_answer r)) }
+        ensures ok { IfOk result
+            (λ r. (order : List Ordered) → slice_get order self.old.at.taken ≡ Some event.now
+            → Stands order self.old
+            → DoneOver order (take_step order) self.old self.new (taken_answer r)) }
         ensures split { IfOk result (λ r. (n : ℕ) → r ≡ taken.Split n → n ≡ self.old.at.taken + 1) }
         ensures err { OnErr result (Unchanged self.old self.new) }
         ensures there { OnErr result (TakeWants (plain_of self.old)) }
@@ -63,7 +65,10 @@ impl Node {
     // Takes a write set of the node's own member, which is the oldest that it had ordered.
     fn take_own(&mut self, event: &Event, body: &Bytes) -> Result<Taken, NoMemory>
         requires { self.old.at.taken < 2 ^ 63 }
-        ensures ok { IfOk result (λ r. (r, self.new) ≡ taken_own (is_this_write body.now (find is_write self.old.queue.ordered)) self.old event.now) }
+        ensures ok { IfOk result
+            (λ r. (r, self.new)
+            ≡ taken_own
+            (is_this_write body.now (find is_write self.old.queue.ordered)) self.old event.now) }
         ensures err { OnErr result (self.new ≡ self.old) }
     {
         if !self.queue.is_next_write(body) {
@@ -77,7 +82,9 @@ impl Node {
     // Takes a report of the node's own member.
     fn take_own_report(&mut self, event: &Event) -> Result<Taken, NoMemory>
         requires { self.old.at.taken < 2 ^ 63 }
-        ensures ok { IfOk result (λ r. (r, self.new) ≡ took_with self.old event.now (without_oldest is_report self.old.queue)) }
+        ensures ok { IfOk result
+            (λ r. (r, self.new)
+            ≡ took_with self.old event.now (without_oldest is_report self.old.queue)) }
         ensures err { OnErr result (self.new ≡ self.old) }
     {
         self.inbox.push(event)?;
@@ -88,7 +95,8 @@ impl Node {
     // Takes an event that the node did not send.
     fn take_other(&mut self, event: &Event) -> Result<Taken, NoMemory>
         requires { self.old.at.taken < 2 ^ 63 }
-        ensures ok { IfOk result (λ r. (r, self.new) ≡ took_with self.old event.now self.old.queue) }
+        ensures ok { IfOk result
+            (λ r. (r, self.new) ≡ took_with self.old event.now self.old.queue) }
         ensures err { OnErr result (self.new ≡ self.old) }
     {
         self.inbox.push(event)?;
@@ -99,7 +107,8 @@ impl Node {
     fn took(&mut self) -> Taken
         requires { self.old.at.taken < 2 ^ 63 }
         ensures answer { result ≡ taken.Took (self.old.at.taken + 1) }
-        ensures after { self.new ≡ record self.old { at = record self.old.at { taken = self.old.at.taken + 1 } } }
+        ensures after { self.new
+            ≡ record self.old { at = record self.old.at { taken = self.old.at.taken + 1 } } }
     {
         self.at.taken += 1;
         Taken::Took(self.at.taken)

@@ -40,8 +40,9 @@ deleting id = record { id = id; kind = kind.Exclusive; change = Some (op.Delete 
 abbrev pub sharing : RowId → Statement
 sharing id = record { id = id; kind = kind.Shared; change = None }
 
--- what a statement meets: the greatest fragment of another open transaction that touches its key, the first other holder
--- whose locks touch it, the row as its transaction sees it, and whether the transaction would grow too large
+-- what a statement meets: the greatest fragment of another open transaction that touches its key,
+-- the first other holder whose locks touch it, the row as its transaction sees it, and whether the
+-- transaction would grow too large
 pub record Met : Type 0 where
   pub held : Option ℕ
   pub blocker : Option Holder
@@ -64,11 +65,13 @@ is_insert (Some (op.Insert id row)) = true
 is_insert (Some (op.Update id change)) = false
 is_insert (Some (op.Delete id)) = false
 
--- the least column that is named and lies behind the width; the first of the list is counted as `column`
+-- the least column that is named and lies behind the width; the first of the list is counted as
+-- `column`
 abbrev pub missing_from : ℕ → ℕ → List (Option ℕ) → Option ℕ
 missing_from column width [] = None
 missing_from column width (None ∷ change) = missing_from (column + 1) width change
-missing_from column width (Some value ∷ change) = if nat_lt width column then Some column else missing_from (column + 1) width change
+missing_from column width (Some value ∷ change) =
+    if nat_lt width column then Some column else missing_from (column + 1) width change
 
 -- the least column that an update names and the row lacks
 abbrev pub missing_column : Option Op → Option (List ℕ) → Option ℕ
@@ -135,7 +138,8 @@ statement order n session (Some t) st =
     let met = met_by order n session t st in
     statement_by (refusal met st.change) n (accepted n session met.row st.change (extended t st))
 
--- a transaction begins with the next begin number; its fragments have so many changes, and with 0 it sends none
+-- a transaction begins with the next begin number; its fragments have so many changes, and with 0
+-- it sends none
 abbrev pub begin_call : ModelNode → ℕ → ℕ → Option Live → Reply × ModelNode
 begin_call n session unit None = (
   reply.Done,
@@ -147,7 +151,8 @@ begin_call n session unit (Some t) = (reply.InTrx, n)
 -- the commit is sent, with what was gathered since the last fragment
 abbrev pub send_commit : ModelNode → ℕ → Live → ModelNode
 send_commit n session t =
-    set_live (send n (commit_of t n.at.serial n.at.committed)) session (with_status t status.CommitSent)
+    set_live (send n (commit_of t n.at.serial n.at.committed)) session
+    (with_status t status.CommitSent)
 
 -- a transaction without a change that never sent a fragment is done at once
 abbrev pub commit_call : ModelNode → ℕ → Option Live → Reply × ModelNode
@@ -169,10 +174,12 @@ poll_reply (Some t) = reply.Running
 abbrev pub served : List Event → ModelNode → ℕ → Option Live → Call → Reply × ModelNode
 served order n session live (call.Begin unit) = begin_call n session unit live
 served order n session live (call.Insert id row) = statement order n session live (inserting id row)
-served order n session live (call.Update id change) = statement order n session live (updating id change)
+served order n session live (call.Update id change) =
+    statement order n session live (updating id change)
 served order n session live (call.Delete id) = statement order n session live (deleting id)
 served order n session live (call.Share id) = statement order n session live (sharing id)
-served order n session live (call.Read id) = (row_reply (get (seen_rows (rows_at order n.at.committed) live) id), n)
+served order n session live (call.Read id) =
+    (row_reply (get (seen_rows (rows_at order n.at.committed) live) id), n)
 served order n session live call.Commit = commit_call n session live
 served order n session live call.Rollback = rollback_call n session live
 served order n session live call.Poll = (poll_reply live, n)
@@ -192,8 +199,10 @@ asked order n session live c =
 
 -- a waiting answer comes first and is cleared; the call is not done
 abbrev pub told_first : ModelNode → ℕ → Option Reply → Reply × ModelNode → Reply × ModelNode
-told_first n session (Some waiting) otherwise = (waiting, record n { waiting = remove n.waiting session })
+told_first n session (Some waiting) otherwise =
+    (waiting, record n { waiting = remove n.waiting session })
 told_first n session None otherwise = otherwise
 
 unfoldable pub client : List Event → ModelNode → ℕ → Call → Reply × ModelNode
-client order n session c = told_first n session (get n.waiting session) (asked order n session (get n.live session) c)
+client order n session c =
+    told_first n session (get n.waiting session) (asked order n session (get n.live session) c)

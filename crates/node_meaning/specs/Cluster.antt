@@ -17,7 +17,8 @@ pub record ModelCluster : Type 0 where
 
 -- nodes 1 to K, members 1 to K of the first view
 unfoldable pub start_cluster : ℕ → List ℕ → ModelCluster
-start_cluster nodes id = record { order = start_order nodes; nodes = map (start_node id) (up_to nodes) }
+start_cluster nodes id =
+    record { order = start_order nodes; nodes = map (start_node id) (up_to nodes) }
 
 -- the list with this item there; past its end the list stays
 abbrev pub set_at : {A : Type 0} → List A → ℕ → A → List A
@@ -47,7 +48,8 @@ drain c i n = drain_all c i n (c.order ++ map (event_of n.at.member) n.outbox)
 
 -- one step of the node at place i
 abbrev pub step_of : ModelCluster → ℕ → ModelNode → Act → Answer × ModelCluster
-step_of c i n (act.Client session call) = with_node c i (node_step c.order n (act.Client session call))
+step_of c i n (act.Client session call) =
+    with_node c i (node_step c.order n (act.Client session call))
 step_of c i n act.Order = order_first c i n n.outbox
 step_of c i n act.Take = with_node c i (node_step c.order n act.Take)
 step_of c i n act.Certify = with_node c i (node_step c.order n act.Certify)

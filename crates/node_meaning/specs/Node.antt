@@ -1,4 +1,5 @@
--- the model of a node: no rows, no index and no locks of its own. Its rows are those of the fold at what it has committed.
+-- the model of a node: no rows, no index and no locks of its own. Its rows are those of the fold at
+-- what it has committed.
 use Rattle.std.specs.Prelude.{ℕ, ◌+◌, ◌==◌, nat_lt, Bool, true, false, List, [], ◌∷◌, ◌++◌, Option, Some, None, if◌then◌else◌}
 use Rattle.std.specs.List.{filter, filter_map}
 use Rattle.std.specs.Ordering.{nat_cmp}
@@ -45,7 +46,17 @@ pub record ModelNode : Type 0 where
 -- a node at its start
 abbrev pub start_node : List ℕ → ℕ → ModelNode
 start_node id member = record {
-  at = record { phase = phase.Connected; member = member; view = 1; taken = 0; certified = 0; committed = 0; serial = 1; begin = 1 };
+  at =
+      record {
+        phase = phase.Connected;
+        member = member;
+        view = 1;
+        taken = 0;
+        certified = 0;
+        committed = 0;
+        serial = 1;
+        begin = 1;
+      };
   id = id;
   ordered = [];
   outbox = [];
@@ -73,18 +84,21 @@ is_connected phase.Connected = true
 abbrev pub rows_at : List Event → ℕ → Rows
 rows_at order committed = (state_at order committed).rows
 
--- the rows that a session sees: the committed ones, and the changes of its transaction on them while that has locks
+-- the rows that a session sees: the committed ones, and the changes of its transaction on them
+-- while that has locks
 abbrev pub seen_rows : Rows → Option Live → Rows
 seen_rows rows None = rows
 seen_rows rows (Some t) = if has_locks t.status then ops_on t.ops rows else rows
 
 -- the passed commits that are certified and not committed
 abbrev pub ahead : List Event → ℕ → ℕ → List CommitItem
-ahead order committed certified = filter (λ c. nat_lt committed c.number) (state_at order certified).commits
+ahead order committed certified =
+    filter (λ c. nat_lt committed c.number) (state_at order certified).commits
 
 -- the one of them with this number
 abbrev pub passed_at : List Event → ℕ → ℕ → ℕ → Option CommitItem
-passed_at order committed certified number = commit_numbered number (ahead order committed certified)
+passed_at order committed certified number =
+    commit_numbered number (ahead order committed certified)
 
 -- a holder with its keys, where it has any
 abbrev pub some_keys : Bool → Holder → Keys → Option (Holder × Keys)
@@ -98,9 +112,11 @@ live_lock e = some_keys (has_locks e.1.status) (Session e.0) e.1.keys
 abbrev pub unit_lock : ℕ × ApplyUnit → Option (Holder × Keys)
 unit_lock e = some_keys true (UnitHolder e.0) e.1.keys
 
--- who has which keys: transactions with locks those since their start, and units those of their commits
+-- who has which keys: transactions with locks those since their start, and units those of their
+-- commits
 abbrev pub locks_of : FiniteMap nat_cmp Live → FiniteMap nat_cmp ApplyUnit → Locks
-locks_of live units = from_entries (filter_map live_lock live.entries ++ filter_map unit_lock units.entries)
+locks_of live units =
+    from_entries (filter_map live_lock live.entries ++ filter_map unit_lock units.entries)
 
 abbrev pub set_live : ModelNode → ℕ → Live → ModelNode
 set_live n session t = record n { live = insert n.live session t }
@@ -111,7 +127,8 @@ end_live n session = record n { live = remove n.live session }
 
 -- a transaction ends, and its session is told so when it calls next
 abbrev pub end_with : ModelNode → ℕ → Reply → ModelNode
-end_with n session reply = record n { live = remove n.live session; waiting = insert n.waiting session reply }
+end_with n session reply =
+    record n { live = remove n.live session; waiting = insert n.waiting session reply }
 
 -- the bytes of a write set are put at the end of the queue
 abbrev pub send : ModelNode → WriteSet → ModelNode
@@ -124,6 +141,7 @@ abbrev pub send_any : ModelNode → Option WriteSet → ModelNode
 send_any n None = n
 send_any n (Some w) = send n w
 
--- the rollback that the end of a transaction leaves is sent: where it ever sent a fragment, and nothing of its commit
+-- the rollback that the end of a transaction leaves is sent: where it ever sent a fragment, and
+-- nothing of its commit
 abbrev pub taken_back : ModelNode → Live → ModelNode
 taken_back n t = send_any n (rollback_due t n.at.serial n.at.committed)

@@ -62,20 +62,23 @@ is_this_write body None = false
 is_this_write body (Some (message.Write other)) = bytes_eq body other
 is_this_write body (Some (message.Report number)) = false
 
--- the node without the message that the event is; None where the event is a write set of the node's member that is not
--- the oldest one that it had ordered
+-- the node without the message that the event is; None where the event is a write set of the node's
+-- member that is not the oldest one that it had ordered
 abbrev pub unqueued : ModelNode → Event → Option ModelNode
 unqueued n (event.Write member body) =
     if not (member == n.at.member) then Some n
-    else if is_this_write body (find is_write n.ordered) then Some (record n { ordered = without_first is_write n.ordered })
+    else if is_this_write body (find is_write n.ordered)
+    then Some (record n { ordered = without_first is_write n.ordered })
     else None
 unqueued n (event.Report member number) =
-    if member == n.at.member then Some (record n { ordered = without_first is_report n.ordered }) else Some n
+    if member == n.at.member then Some (record n { ordered = without_first is_report n.ordered })
+    else Some n
 unqueued n (event.View version members) = Some n
 
 abbrev pub took : ModelNode → Option ModelNode → Answer × ModelNode
 took n None = (answer.Split, n)
-took n (Some m) = (answer.Took (m.at.taken + 1), record m { at = record m.at { taken = m.at.taken + 1 } })
+took n (Some m) =
+    (answer.Took (m.at.taken + 1), record m { at = record m.at { taken = m.at.taken + 1 } })
 
 abbrev pub take_event : ModelNode → Option Event → Answer × ModelNode
 take_event n None = (answer.Nothing, n)
@@ -84,7 +87,8 @@ take_event n (Some e) = took n (unqueued n e)
 -- the next event of the order is taken
 unfoldable pub take_step : List Event → ModelNode → Answer × ModelNode
 take_step order n =
-    if is_connected n.at.phase then take_event n (slice_get order n.at.taken) else (answer.Nothing, n)
+    if is_connected n.at.phase then take_event n (slice_get order n.at.taken)
+    else (answer.Nothing, n)
 
 -- ---- certifying
 abbrev pub verdict_of : Judged → Verdict
@@ -106,7 +110,8 @@ session_of live begin = find (λ e. e.1.trx.begin == begin) live.entries
 
 abbrev pub told_verdict : ModelNode → ℕ → Verdict → Option (ℕ × Live) → ModelNode
 told_verdict n number v None = n
-told_verdict n number v (Some e) = if is_sent e.1.status then told n e.0 (judged_by number v e.1) else n
+told_verdict n number v (Some e) =
+    if is_sent e.1.status then told n e.0 (judged_by number v e.1) else n
 
 abbrev pub told_own : ModelNode → ℕ → Verdict → Option WriteSet → ModelNode
 told_own n number v None = n
@@ -125,7 +130,8 @@ certify_event order n (Some e) =
     let number = n.at.certified + 1 in
     let became = judged (state_at order n.at.certified) e in (
       answer.Judged number became,
-      told_event (record n { at = record n.at { certified = number } }) number (verdict_of became) e,
+      told_event (record n { at = record n.at { certified = number } }) number
+          (verdict_of became) e,
     )
 
 -- the next event that was taken is certified
@@ -135,7 +141,8 @@ certify_step order n =
     else certify_event order n (slice_get order n.at.certified)
 
 -- ---- units
--- a unit aborts a session's transaction: that ends, and its session is told so; or it loses its locks
+-- a unit aborts a session's transaction: that ends, and its session is told so; or it loses its
+-- locks
 abbrev pub ended_session : ℕ → ModelNode → ℕ → Option Live → ModelNode
 ended_session number n session None = n
 ended_session number n session (Some t) = told n session (killed_by number t)
@@ -161,31 +168,39 @@ kill_session number n session = killed_session number n session (get n.live sess
 abbrev pub started : ModelNode → ℕ → Keys → List ℕ → Answer × ModelNode
 started n number keys victims = (
   answer.Started number victims,
-  fold (kill_session number) (record n { units = insert n.units number (record { stage = Started; keys = keys }) }) victims,
+  fold (kill_session number)
+      (record n { units = insert n.units number (record { stage = Started; keys = keys }) })
+      victims,
 )
 
 -- the passed commits before a number that touch the keys
 abbrev pub touching_before : List CommitItem → ℕ → Keys → List ℕ
 touching_before commits number keys =
-    map (λ (c : CommitItem). c.number) (filter (λ c. nat_lt c.number number && touches c.keys keys) commits)
+    map (λ (c : CommitItem). c.number)
+    (filter (λ c. nat_lt c.number number && touches c.keys keys) commits)
 
 abbrev pub start_after : ModelNode → ℕ → Keys → Option ℕ → Answer × ModelNode
 start_after n number keys (Some earlier) = (answer.NotYet earlier, n)
-start_after n number keys None = started n number keys (touching_sessions (locks_of n.live n.units) keys)
+start_after n number keys None =
+    started n number keys (touching_sessions (locks_of n.live n.units) keys)
 
 abbrev pub start_unit : List Event → ModelNode → ℕ → Option CommitItem → Answer × ModelNode
 start_unit order n number None = (answer.NoUnit number, n)
 start_unit order n number (Some commit) =
     if is_some (get n.units number) then (answer.NoUnit number, n)
     else if is_local n.live number then (answer.Local number, n)
-    else start_after n number commit.keys (greatest (touching_before (ahead order n.at.committed n.at.certified) number commit.keys))
+    else start_after n number commit.keys
+    (greatest (touching_before (ahead order n.at.committed n.at.certified) number commit.keys))
 
 unfoldable pub start_step : List Event → ModelNode → ℕ → Answer × ModelNode
-start_step order n number = start_unit order n number (passed_at order n.at.committed n.at.certified number)
+start_step order n number =
+    start_unit order n number (passed_at order n.at.committed n.at.certified number)
 
 abbrev pub finish_stage : ModelNode → ℕ → Keys → Stage → Answer × ModelNode
-finish_stage n number keys Started =
-    (answer.Finished number, record n { units = insert n.units number (record { stage = Finished; keys = keys }) })
+finish_stage n number keys Started = (
+  answer.Finished number,
+  record n { units = insert n.units number (record { stage = Finished; keys = keys }) },
+)
 finish_stage n number keys Finished = (answer.NoUnit number, n)
 
 abbrev pub finish_unit : ModelNode → ℕ → Option ApplyUnit → Answer × ModelNode
@@ -220,13 +235,16 @@ told_committed n number (Some e) = end_with n e.0 (reply.Committed number)
 
 abbrev pub committed_next : ModelNode → ℕ → ModelNode
 committed_next n number =
-    told_committed (record n { at = record n.at { committed = number }; units = remove n.units number }) number
+    told_committed
+    (record n { at = record n.at { committed = number }; units = remove n.units number }) number
     (committer_of n.live number)
 
--- whether a number is ready: no passed commit, or a finished unit, or the commit of a live Certified transaction
+-- whether a number is ready: no passed commit, or a finished unit, or the commit of a live
+-- Certified transaction
 abbrev pub is_ready : List Event → ModelNode → ℕ → Bool
 is_ready order n number =
-    not (is_some (passed_at order n.at.committed n.at.certified number)) || is_finished (get n.units number) || is_local n.live number
+    not (is_some (passed_at order n.at.committed n.at.certified number))
+    || is_finished (get n.units number) || is_local n.live number
 
 -- the next number that was certified is committed
 unfoldable pub advance_step : List Event → ModelNode → Answer × ModelNode
@@ -241,7 +259,8 @@ advance_step order n =
 abbrev pub put_report : ModelNode → ModelNode
 put_report n = record n { outbox = n.outbox ++ message.Report n.at.committed ∷ [] }
 
--- the node reports what it has committed, where it is connected and has committed the view in which it entered
+-- the node reports what it has committed, where it is connected and has committed the view in which
+-- it entered
 unfoldable pub report_step : ModelNode → Answer × ModelNode
 report_step n =
     if is_left n.at.phase then (answer.Disconnected, n)
@@ -249,7 +268,8 @@ report_step n =
     else (answer.Reported n.at.committed, put_report n)
 
 -- ---- all steps of one node
--- a step of a node by itself: those that order events, and those of later stages, answer NOTHING here and change nothing
+-- a step of a node by itself: those that order events, and those of later stages, answer NOTHING
+-- here and change nothing
 abbrev pub node_step : List Event → ModelNode → Act → Answer × ModelNode
 node_step order n (act.Client session c) =
     let said = client order n session c in (answer.Client said.0, said.1)

@@ -38,6 +38,8 @@ abbrev pub rows_before : List Event → ℕ → Rows
 rows_before order zero = rows_at order 0
 rows_before order (suc number) = rows_at order number
 
--- the task of the unit with a number: the changes of its commit, and the images that the rows before it give
+-- the task of the unit with a number: the changes of its commit, and the images that the rows
+-- before it give
 abbrev pub unit_task : List Event → ℕ → ModelTask
-unit_task order number = task number (ops_at order number) (images_of (ops_at order number) (rows_before order number))
+unit_task order number =
+    task number (ops_at order number) (images_of (ops_at order number) (rows_before order number))

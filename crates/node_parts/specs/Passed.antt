@@ -14,7 +14,8 @@ pub record PassedOps : Type 0 where
 -- the numbers rise
 abbrev pub IsRising : {X : Type 0} → List (ℕ × X) → Type 0
 IsRising {X} entries =
-    (i j : ℕ) (d : ℕ × X) → i < j → j < length entries → (slice_index_or entries i d).0 < (slice_index_or entries j d).0
+    (i j : ℕ) (d : ℕ × X) → i < j → j < length entries
+    → (slice_index_or entries i d).0 < (slice_index_or entries j d).0
 
 -- every number in the map is below this one
 abbrev pub AllBefore : {X : Type 0} → FiniteMap nat_cmp X → ℕ → Type 0

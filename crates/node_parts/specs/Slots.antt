@@ -25,4 +25,5 @@ pub record AreSlots {X : Type 0} (places : List (Option X)) : Type 0 where
 
 -- sessions are numbered from 1 to 32
 abbrev pub HasSessions : {X : Type 0} → FiniteMap nat_cmp X → Type 0
-HasSessions {X} m = (session : ℕ) (item : X) → get m session ≡ Some item → (1 ≤ session) × (session ≤ 32)
+HasSessions {X} m =
+    (session : ℕ) (item : X) → get m session ≡ Some item → (1 ≤ session) × (session ≤ 32)

@@ -30,13 +30,16 @@ added t number keys rows = record {
   room = t.room + rows;
 }
 
-abbrev pub finished_unit : FiniteMap nat_cmp ApplyUnit → ℕ → Option ApplyUnit → FiniteMap nat_cmp ApplyUnit
+abbrev pub finished_unit : FiniteMap nat_cmp ApplyUnit → ℕ → Option ApplyUnit
+    → FiniteMap nat_cmp ApplyUnit
 finished_unit units number None = units
-finished_unit units number (Some unit) = insert units number (record { stage = Finished; keys = unit.keys })
+finished_unit units number (Some unit) =
+    insert units number (record { stage = Finished; keys = unit.keys })
 
 abbrev pub finished_work : FiniteMap nat_cmp Work → ModelTask → Option Work → FiniteMap nat_cmp Work
 finished_work work task None = work
-finished_work work task (Some old) = insert work task.number (record { rows = old.rows; done = Some task })
+finished_work work task (Some old) =
+    insert work task.number (record { rows = old.rows; done = Some task })
 
 -- the unit of a task has finished, where there is one
 abbrev pub finished : UnitTable → ModelTask → UnitTable

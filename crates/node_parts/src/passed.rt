@@ -24,7 +24,11 @@ impl Model for Passed {
 
     ghost Value = { PassedOps };
 
-    ghost view = { λ p. record { ops = from_entries p.commits.items; spare = deque_capacity p.commits - deque_len p.commits } };
+    ghost view = { λ p.
+        record {
+          ops = from_entries p.commits.items;
+          spare = deque_capacity p.commits - deque_len p.commits;
+        } };
 
     ghost invariant = { λ p. IsRising p.commits.items };
 }

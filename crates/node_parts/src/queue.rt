@@ -36,7 +36,11 @@ impl Model for Queue {
 
     ghost Value = { Queued };
 
-    ghost view = { λ q. record { ordered = take q.ordered q.messages.items; outbox = drop q.ordered q.messages.items } };
+    ghost view = { λ q.
+        record {
+          ordered = take q.ordered q.messages.items;
+          outbox = drop q.ordered q.messages.items;
+        } };
 
     ghost invariant = { λ q. q.ordered ≤ length q.messages.items };
 }

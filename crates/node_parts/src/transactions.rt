@@ -43,7 +43,8 @@ pub fn committer_of(live: &Slots<Trx>, number: u64) -> Option<u8>
 
 // The first session whose transaction is the wanted one.
 fn find(live: &Slots<Trx>, wanted: Wanted) -> Option<u8>
-    ensures value { result ≡ option_map (λ e. e.0) (find (λ e. is_wanted wanted e.1) live.now.entries) }
+    ensures value { result
+        ≡ option_map (λ e. e.0) (find (λ e. is_wanted wanted e.1) live.now.entries) }
     ensures within { IfSome result (λ session. (1 ≤ session) × (session ≤ 32)) }
 {
     for session in 0..live.session_end() {

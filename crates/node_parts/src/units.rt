@@ -33,7 +33,12 @@ impl Model for Units {
 
     ghost use Rattle.node_parts.specs.UnitEntries.{units_in, work_in};
 
-    ghost view = { λ u. record { units = units_in u.entries.entries; work = work_in u.entries.entries; room = u.room } };
+    ghost view = { λ u.
+        record {
+          units = units_in u.entries.entries;
+          work = work_in u.entries.entries;
+          room = u.room;
+        } };
 
     ghost invariant = { λ u. u.room ≡ total_rows (work_in u.entries.entries) };
 }
