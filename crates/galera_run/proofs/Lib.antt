@@ -1,6 +1,8 @@
+pub mod Askings
 pub mod Endings
 pub mod FirstLines
 pub mod LineLaws
+pub mod LoadRuns
 pub mod Openings
 pub mod Readings
 pub mod ScheduleLaws

@@ -5,3 +5,5 @@ pub mod Feeding
 pub mod Outcome
 pub mod Program
 pub mod Schedules
+pub mod Load
+pub mod Words

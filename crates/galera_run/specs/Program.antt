@@ -10,10 +10,6 @@ use Rattle.galera_run.specs.Reading.{Ending, finished, refused, run_of, text_so_
 use Rattle.galera_run.specs.Writing.{AppendsFront}
 use Rattle.galera_run.specs.Outcome.{TellsAll, TellsFirst, IsRead}
 
--- the words are the command
-abbrev pub IsSteps : List (List ℕ) → Type 0
-IsSteps words = words ≡ codes "steps" ∷ []
-
 -- the text where the words are no command, and where the source failed
 abbrev pub usage_text : List ℕ
 usage_text = codes "USAGE\n"

@@ -1,11 +1,13 @@
 ghost use Rattle.std.specs.Prelude.{◌≡◌, ◌≢◌, ◌<◌, ◌⊎◌, ◌↔◌, map, string_bytes, IfOk, IsTrue};
 ghost use Rattle.std.specs.Io.KnownBytes.{Appends, Keeps};
 ghost use Rattle.galera_run.specs.Writing.{AppendsFront};
-ghost use Rattle.galera_run.specs.Program.{IsSteps, refusal_text, cause_text, HasCauses, EndsAs, EndsUsage, TellsEnd, TellsLines, TellsRefused, TellsUnread, CutsRun};
+ghost use Rattle.galera_run.specs.Words.{IsSteps};
+ghost use Rattle.galera_run.specs.Program.{refusal_text, cause_text, HasCauses, EndsAs, EndsUsage, TellsEnd, TellsLines, TellsRefused, TellsUnread, CutsRun};
 
 use crate::fault::RunFault;
 use crate::output::write_piece;
 use crate::run::run_steps;
+use crate::words::is_steps;
 use itoa::Buffer;
 use outside_io::{Sink, Source};
 use script_text::ScriptCause;
@@ -50,16 +52,6 @@ pub fn galera_steps<S: Source, K: Sink>(
         do_steps(alloc, input, out)
     } else {
         end_with(out, b"USAGE\n", 1)
-    }
-}
-
-// Whether the words are the command.
-fn is_steps(words: &[String]) -> bool
-    ensures { IsTrue result ↔ IsSteps (map string_bytes words.now) }
-{
-    match words {
-        [word] => word.as_str() == "steps",
-        _ => false,
     }
 }
 

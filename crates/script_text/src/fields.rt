@@ -11,7 +11,8 @@ use row_model::{Change, Row, RowId};
 // The most digits of a number.
 const MOST_DIGITS: usize = 20;
 
-pub(crate) fn number(word: &[u8]) -> Option<u64>
+/// The number that a word of 1 to 20 digits is, where it is below 2^64.
+pub fn number(word: &[u8]) -> Option<u64>
     ensures { result ≡ number_of word.now }
 {
     if word.len() > MOST_DIGITS || !are_digits(word) {

@@ -11,6 +11,7 @@ mod rounds;
 mod steps;
 mod words;
 
+pub use fields::number;
 pub use line::{Header, Line, ScriptCause};
 pub use load::LoadSteps;
 pub use parse::{parse_first, parse_header, parse_line};

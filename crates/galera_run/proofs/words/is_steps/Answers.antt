@@ -3,7 +3,7 @@ use Rattle.std.specs.Bool.{Decides}
 use Rattle.std.specs.Str.{bytes_eq}
 use Rattle.std.proofs.lemmas.Bool.Decides.{Decides-at, Decides-like}
 use Rattle.std.proofs.lemmas.Slice.Eq.{bytes_eq-Decides}
-use Rattle.galera_run.proofs.program.is_steps.Goals as goal
+use Rattle.galera_run.proofs.words.is_steps.Goals as goal
 
 -- a list of one word is the word
 only_word : (words : List (String Global)) (word : String Global) (text : List ℕ) (same : Bool) → 1 ≤ length words →

@@ -1,0 +1,13 @@
+use cluster_core::Cluster;
+use group_order::MemGroup;
+use report_text::LoadCounts;
+
+/// A workload as it runs.
+#[derive(Drop)]
+pub struct Workload {
+    pub cluster: Cluster<MemGroup>,
+    /// What its steps were answered.
+    pub counts: LoadCounts,
+    /// How many steps were run.
+    pub steps: u64,
+}
