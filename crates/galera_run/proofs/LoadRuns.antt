@@ -42,10 +42,10 @@ pub starts : (seed count : ℕ) (load : Workload) → count ≤ 30_000 → load.
 starts seed count load few model counts steps within = record {
   within = within;
   leads = record {
-      steps = omega (arith, steps);
-      counts = rw (counts, model) (from_none (counts_of (run (load_steps seed count) load_start).0));
-      model = rw model refl;
-    };
+    steps = omega (arith, steps);
+    counts = rw (counts, model) (from_none (counts_of (run (load_steps seed count) load_start).0));
+    model = rw model refl;
+  };
   can_run = load_runs seed count;
   few = omega (arith, load_length seed count, few);
 }
@@ -59,11 +59,11 @@ goes_on all before after step left h done within =
     record {
       within = within;
       leads = record {
-          steps = omega (arith, done.steps, h.leads.steps);
-          counts = rw (done.counts, done.model) (count_next before.counts one.0 (run left one.1).0
-              ∙ ap (λ (r : List Answer × ModelCluster). together before.counts (counts_of r.0)) (sym rest) ∙ h.leads.counts);
-          model = rw done.model (ap (λ (r : List Answer × ModelCluster). r.1) (sym rest) ∙ h.leads.model);
-        };
+        steps = omega (arith, done.steps, h.leads.steps);
+        counts = rw (done.counts, done.model) (count_next before.counts one.0 (run left one.1).0
+            ∙ ap (λ (r : List Answer × ModelCluster). together before.counts (counts_of r.0)) (sym rest) ∙ h.leads.counts);
+        model = rw done.model (ap (λ (r : List Answer × ModelCluster). r.1) (sym rest) ∙ h.leads.model);
+      };
       can_run = h.can_run.1;
       few = h.few;
     }

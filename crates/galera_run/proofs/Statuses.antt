@@ -55,4 +55,4 @@ usage_causes status s ko kn (inr failed) = inr (inr failed)
 pub usage_ends : (status sink_old sink_new : ℕ) (old new : Option (List ℕ)) → EndsAs 1 status sink_old sink_new
     → (status ≡ 1 → Appends old new usage_text) → (status ≡ 4 → AppendsFront old new usage_text) → EndsUsage status old new
 usage_ends status ko kn u w (inl (is, stays)) whole cut = inl (is, whole is)
-usage_ends status ko kn u w (inr (is, rose)) whole cut = inr (is, cut is)
+usage_ends status ko kn u w (inr (is, rose)) whole cut = inr (inl (is, cut is))

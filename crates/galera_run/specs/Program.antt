@@ -1,5 +1,5 @@
 -- what the program writes, and what each exit status says
-use Rattle.std.specs.Prelude.{◌≡◌, ◌≤◌, ◌⊎◌, ℕ, List, [], ◌∷◌, ◌++◌, codes, Option, IfSome}
+use Rattle.std.specs.Prelude.{◌≡◌, ◌≤◌, ◌⊎◌, ℕ, List, [], ◌∷◌, ◌++◌, codes, Option, Some, None, IfSome}
 use Rattle.std.specs.Io.KnownBytes.{Appends, IsAtEnd}
 use Rattle.outside_io.specs.Outside.{Rose}
 use Rattle.script_text.specs.declared.line.ScriptCause.{ScriptCause}
@@ -7,6 +7,9 @@ use Rattle.script_text.specs.declared.line.ScriptCause.TheVariants as cause
 use Rattle.report_text.specs.Texts.{spaced}
 use Rattle.galera_run.specs.declared.fault.Finished.{Finished}
 use Rattle.galera_run.specs.Reading.{Ending, finished, refused, run_of, text_so_far}
+use Rattle.galera_run.specs.Load.{load_summary}
+use Rattle.galera_run.specs.Words.{IsSteps, load_asked}
+use Rattle.galera_run.specs.declared.words.Asked.{Asked}
 use Rattle.galera_run.specs.Writing.{AppendsFront}
 use Rattle.galera_run.specs.Outcome.{TellsAll, TellsFirst, IsRead}
 
@@ -44,10 +47,25 @@ HasCauses status source_old source_new sink_old sink_new =
 abbrev pub EndsAs : ℕ → ℕ → ℕ → ℕ → Type 0
 EndsAs meant status old new = ((status ≡ meant) × (new ≡ old)) ⊎ ((status ≡ 4) × Rose old new)
 
--- the words are no command: the text was written, or a front of it where the sink failed
+-- the words are no command
+abbrev pub IsNoCommand : List (List ℕ) → Type 0
+IsNoCommand words = (¬ IsSteps words) × (load_asked words ≡ None)
+
+-- then the text was written, or a front of it where the sink failed, unless memory was wanting to read the words
 abbrev pub EndsUsage : ℕ → Option (List ℕ) → Option (List ℕ) → Type 0
 EndsUsage status old new =
-    ((status ≡ 1) × Appends old new usage_text) ⊎ ((status ≡ 4) × AppendsFront old new usage_text)
+    ((status ≡ 1) × Appends old new usage_text)
+    ⊎ (((status ≡ 4) × AppendsFront old new usage_text) ⊎ (status ≡ 6))
+
+-- a workload is asked for, and its summary was written
+abbrev pub TellsAsked : Option Asked → Option (List ℕ) → Option (List ℕ) → Type 0
+TellsAsked None old new = ⊥
+TellsAsked (Some a) old new = Appends old new (load_summary a.seed a.count)
+
+-- where one is, a front of its summary was written
+abbrev pub CutsAsked : Option Asked → Option (List ℕ) → Option (List ℕ) → Type 0
+CutsAsked None old new = Unit {0}
+CutsAsked (Some a) old new = AppendsFront old new (load_summary a.seed a.count)
 
 -- the run came to the end of its input, its whole text was written, and no byte is left
 abbrev pub TellsEnd : Option (List ℕ) → Option (List ℕ) → Option (List ℕ) → Option (List ℕ) → Type 0

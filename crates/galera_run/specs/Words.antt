@@ -1,5 +1,5 @@
 -- what the words behind the program's name ask for
-use Rattle.std.specs.Prelude.{◌≡◌, ℕ, ◌&&◌, Bool, true, false, nat_le, List, [], ◌∷◌, codes, Option, Some, None, if◌then◌else◌}
+use Rattle.std.specs.Prelude.{◌≡◌, ◌≤◌, ℕ, ◌&&◌, Bool, true, false, nat_le, List, [], ◌∷◌, codes, Option, Some, None, IfSome, if◌then◌else◌}
 use Rattle.std.specs.Str.{bytes_eq}
 use Rattle.clap.specs.Words.{App, Kinds, Row, Rule, fault_of, first_of, matches_of, new_app, new_rule, with_rule}
 use Rattle.script_text.specs.Words.{◌>>=◌}
@@ -47,3 +47,7 @@ numbers_of rows =
 unfoldable pub load_asked : List (List ℕ) → Option Asked
 load_asked words =
     if is_load words && passes (fault_of load_app words) then numbers_of (matches_of load_app words) else None
+
+-- the count of what is asked for is one that may be
+abbrev pub HasCount : Option Asked → Type 0
+HasCount asked = IfSome asked (λ a. (1 ≤ a.count) × (a.count ≤ 30_000))

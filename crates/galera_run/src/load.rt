@@ -19,7 +19,9 @@ use wsrep_base::{ByteList, NoMemory, StateId};
 
 // The nodes of the cluster, the bytes of its ring, and its id.
 const NODES: u8 = 3;
+
 const RING: u64 = 1_048_576;
+
 const ID: [u8; 16] = [0, 0, 0, 0, 0, 0, 0, 0, 0, 0, 0, 0, 0, 0, 0, 161];
 
 /// Runs the workload of so many transactions, which are drawn from the seed, on three nodes, and

@@ -1,21 +1,23 @@
-ghost use Rattle.std.specs.Prelude.{◌≡◌, ◌≢◌, ◌<◌, ◌⊎◌, ◌↔◌, map, string_bytes, IfOk, IsTrue};
+ghost use Rattle.std.specs.Prelude.{◌≡◌, ◌≢◌, ◌<◌, ◌⊎◌, map, string_bytes, Some, IfOk, IsTrue};
 ghost use Rattle.std.specs.Io.KnownBytes.{Appends, Keeps};
 ghost use Rattle.galera_run.specs.Writing.{AppendsFront};
-ghost use Rattle.galera_run.specs.Words.{IsSteps};
-ghost use Rattle.galera_run.specs.Program.{refusal_text, cause_text, HasCauses, EndsAs, EndsUsage, TellsEnd, TellsLines, TellsRefused, TellsUnread, CutsRun};
+ghost use Rattle.galera_run.specs.Words.{IsSteps, is_load, load_asked, HasCount};
+ghost use Rattle.galera_run.specs.Program.{refusal_text, cause_text, HasCauses, EndsAs, IsNoCommand, EndsUsage, TellsAsked, CutsAsked, TellsEnd, TellsLines, TellsRefused, TellsUnread, CutsRun};
 
 use crate::fault::RunFault;
+use crate::load::run_load;
 use crate::output::write_piece;
 use crate::run::run_steps;
-use crate::words::is_steps;
+use crate::words::{Asked, is_steps, load_asked};
 use itoa::Buffer;
 use outside_io::{Sink, Source};
 use script_text::ScriptCause;
 use std::alloc::Global;
 use wsrep_base::{ByteList, NoMemory};
 
-/// Does the command that the words behind the program's name are, and gives the exit status. The
-/// one command is `steps`: it runs the schedule that the source gives.
+/// Does the command that the words behind the program's name are, and gives the exit status.
+/// `steps` runs the schedule that the source gives. `load --seed N --count N` makes a schedule of
+/// so many transactions, runs it and prints a summary; it reads nothing.
 ///
 /// 0: all was read and the whole text was written. 1: the words are no command. 2: a line is
 /// outside the grammar or passes a limit. 3: the source failed. 4: the sink failed. 6: want of
@@ -29,29 +31,57 @@ pub fn galera_steps<S: Source, K: Sink>(
     // Which count of faults rose, and that there is no other status.
     ensures cause { HasCauses result (S.faults input.old) (S.faults input.new)
         (K.faults out.old) (K.faults out.new) }
-    ensures finished { result ≡ 0 → IsSteps (map string_bytes words.now)
-        × TellsEnd (S.left input.old) (S.left input.new) (K.written out.old) (K.written out.new) }
-    // The words are no command: both directions. Nothing is read.
-    ensures usage { (result ≡ 1 → ¬ IsSteps (map string_bytes words.now))
-        × ((¬ IsSteps (map string_bytes words.now)) →
-        EndsUsage result (K.written out.old) (K.written out.new) × (input.new ≡ input.old)) }
+    ensures finished { result ≡ 0 → (IsSteps (map string_bytes words.now)
+        × TellsEnd (S.left input.old) (S.left input.new) (K.written out.old) (K.written out.new))
+        ⊎ TellsAsked (load_asked (map string_bytes words.now))
+        (K.written out.old) (K.written out.new) }
+    // The words are no command: both directions. Only `steps` reads.
+    ensures usage { (result ≡ 1 → IsNoCommand (map string_bytes words.now))
+        × (IsNoCommand (map string_bytes words.now) →
+        EndsUsage result (K.written out.old) (K.written out.new))
+        × ((¬ IsSteps (map string_bytes words.now)) → input.new ≡ input.old) }
     ensures script { result ≡ 2 → IsSteps (map string_bytes words.now)
         × TellsRefused (S.left input.old) (K.written out.old) (K.written out.new) }
     ensures read { result ≡ 3 → IsSteps (map string_bytes words.now)
         × TellsUnread (S.left input.old) (S.left input.new)
         (K.written out.old) (K.written out.new) }
     // What went out is a front of the text. The source's count rose where it ends with `READ`.
-    ensures cut { result ≡ 4 → IsSteps (map string_bytes words.now)
+    ensures cut { result ≡ 4 → (IsSteps (map string_bytes words.now)
         → CutsRun (S.left input.old) (S.left input.new) (S.faults input.old) (S.faults input.new)
+        (K.written out.old) (K.written out.new))
+        × CutsAsked (load_asked (map string_bytes words.now))
         (K.written out.old) (K.written out.new) }
-    // What went out is the text of whole lines.
-    ensures memory { result ≡ 6 → IsSteps (map string_bytes words.now)
-        × TellsLines (S.left input.old) (K.written out.old) (K.written out.new) }
+    // What went out is the text of whole lines, and nothing where the words begin with `load`.
+    ensures memory { result ≡ 6 → (IsSteps (map string_bytes words.now)
+        × TellsLines (S.left input.old) (K.written out.old) (K.written out.new))
+        ⊎ (IsTrue (is_load (map string_bytes words.now))
+        × Keeps (K.written out.old) (K.written out.new)) }
 {
     if is_steps(words) {
-        do_steps(alloc, input, out)
-    } else {
-        end_with(out, b"USAGE\n", 1)
+        return do_steps(alloc, input, out);
+    }
+    match load_asked(alloc, words) {
+        Ok(Some(asked)) => do_load(alloc, asked, out),
+        Ok(None) => end_with(out, b"USAGE\n", 1),
+        Err(_) => 6,
+    }
+}
+
+// Runs the workload, and prints its summary.
+fn do_load<K: Sink>(alloc: Global, asked: Asked, out: &mut K) -> u8
+    requires { HasCount (Some asked) }
+    ensures cause { EndsAs 0 result (K.faults out.old) (K.faults out.new)
+        ⊎ ((result ≡ 6) × (K.faults out.new ≡ K.faults out.old)) }
+    ensures finished { result ≡ 0 → TellsAsked (Some asked) (K.written out.old) (K.written out.new) }
+    ensures cut { result ≡ 4 → CutsAsked (Some asked) (K.written out.old) (K.written out.new) }
+    ensures memory { result ≡ 6 → Keeps (K.written out.old) (K.written out.new) }
+{
+    match run_load(alloc, asked.seed, asked.count, out) {
+        Ok(_) => 0,
+        Err(RunFault::Write) => 4,
+        Err(RunFault::NoMemory) => 6,
+        // It has no input.
+        Err(RunFault::Script { .. } | RunFault::Read) => unreachable!(),
     }
 }
 

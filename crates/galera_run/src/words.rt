@@ -1,6 +1,6 @@
 ghost use Rattle.std.specs.Prelude.{◌≡◌, ◌↔◌, map, string_bytes, IfOk, IfErr, IsTrue};
 ghost use Rattle.clap.specs.Words.{app_of, found_of, rows_of};
-ghost use Rattle.galera_run.specs.Words.{IsSteps, is_load, load_app, load_asked, numbers_of, option_number};
+ghost use Rattle.galera_run.specs.Words.{IsSteps, is_load, load_app, load_asked, numbers_of, option_number, HasCount};
 
 use clap::error::ErrorKind;
 use clap::{Arg, ArgMatches, Command};
@@ -32,6 +32,8 @@ pub(crate) fn is_steps(words: &[String]) -> bool
 /// The workload that the words ask for, where they are the command `load`.
 pub(crate) fn load_asked(alloc: Global, words: &[String]) -> Result<Option<Asked>, NoMemory>
     ensures ok { IfOk result (λ asked. asked ≡ load_asked (map string_bytes words.now)) }
+    ensures count { IfOk result (λ asked. HasCount asked) }
+    // Only words that begin with `load` take memory.
     ensures err { IfErr result (λ _. IsTrue (is_load (map string_bytes words.now))) }
 {
     if !is_load(words) {
@@ -64,7 +66,8 @@ fn load_command<'a>(alloc: Global) -> Result<Command<'a>, AllocError>
 
 #[tactic(auto, unfolding(crate::specs::Words::numbers_of))]
 fn numbers(matches: &ArgMatches) -> Option<Asked>
-    ensures { result ≡ numbers_of (rows_of (found_of matches.now)) }
+    ensures numbers { result ≡ numbers_of (rows_of (found_of matches.now)) }
+    ensures count { HasCount result }
 {
     let seed = option_number(matches, "seed")?;
     let count = option_number(matches, "count")?;

@@ -16,7 +16,7 @@ returns-in-Ok-clause-ok c =
     let app = c.in_ok-command.ensures in
     let matched = (c.in-Ok.ensures.matches (ap is_simple app ∙ is_plain)).0 ∙ ap (λ a. matches_of a words) app in
     let none = sym (ap (λ a. fault_of a words) app) ∙ c.in-Ok.ensures.kinds (ap is_simple_and_free app ∙ is_known) in
-    c.numbers.ensures ∙ taken words (rows_of (found_of c.in-Ok.matches)) first none matched
+    c.numbers.ensures.numbers ∙ taken words (rows_of (found_of c.in-Ok.matches)) first none matched
 
 pub returns-in-Err-2-clause-ok : goal.returns-in-Err-2-clause-ok
 returns-in-Err-2-clause-ok c =
