@@ -7,3 +7,4 @@ pub mod Program
 pub mod Schedules
 pub mod Load
 pub mod Words
+pub mod Args

@@ -1,6 +1,7 @@
 //! The program: it runs a schedule that it reads and prints what each step is answered.
 #![tactic(auto)]
 
+mod args;
 mod fault;
 mod finish;
 mod laws;
@@ -15,19 +16,18 @@ mod script;
 mod words;
 mod workload;
 
+use args::words_of;
 pub use fault::{Finished, RunFault};
 pub use laws::run_laws;
 pub use load::run_load;
 use outside_io::{StdSink, StdSource};
 pub use program::galera_steps;
 pub use run::run_steps;
-use std::alloc::AllocError;
 use std::env;
-use std::io::ErrorKind;
 use std::process::ExitCode;
 
 fn main(rt: HostRuntime) -> ExitCode {
-    let status = match words_of(&rt) {
+    let status = match words_of(rt.alloc(), env::args(&rt)) {
         Ok(words) => {
             let mut input = StdSource::new(rt.stdin());
             let mut out = StdSink::new(rt.stdout());
@@ -36,14 +36,4 @@ fn main(rt: HostRuntime) -> ExitCode {
         Err(_) => 6,
     };
     ExitCode::from(status)
-}
-
-// The words behind the program's name. A word that is not UTF-8 is part of no command: then there
-// is none.
-fn words_of(rt: &HostRuntime) -> Result<Vec<String>, AllocError> {
-    match env::args(rt) {
-        Ok(words) => words.skip(1).collect(rt.alloc()),
-        Err(fault) if fault.kind() == ErrorKind::OutOfMemory => Err(AllocError),
-        Err(_) => Ok(Vec::new(rt.alloc())),
-    }
 }

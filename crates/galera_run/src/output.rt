@@ -1,7 +1,7 @@
-ghost use Rattle.std.specs.Prelude.{◌≡◌, ◌<◌, ◌≤◌, length, OnOk, OnErr};
+ghost use Rattle.std.specs.Prelude.{◌≡◌, ◌==◌, ◌<◌, ◌≤◌, length, position, OnOk, OnErr, IfSome};
 ghost use Rattle.std.specs.Io.KnownBytes.{Appends};
 ghost use Rattle.outside_io.specs.Outside.{HasCause};
-ghost use Rattle.galera_run.specs.Writing.{AppendsFront};
+ghost use Rattle.galera_run.specs.Writing.{AppendsFront, first_line_len};
 
 use outside_io::{Failed, Sink};
 
@@ -37,11 +37,20 @@ pub(crate) fn write_lines<K: Sink>(out: &mut K, text: &[u8]) -> Result<(), Faile
 // The length of the first line, with its newline.
 fn first_line_len(text: &[u8]) -> usize
     requires { 0 < length text.now }
+    ensures line { result ≡ first_line_len text.now }
     ensures some { 0 < result }
     ensures within { result ≤ length text.now }
 {
-    match text.iter().position(|b| *b == b'\n') {
+    match newline_at(text) {
         Some(at) => at + 1,
         None => text.len(),
     }
+}
+
+// Where the first newline stands.
+fn newline_at(text: &[u8]) -> Option<usize>
+    ensures first { result ≡ position (λ b. b == 10) text.now }
+    ensures within { IfSome result (λ at. at < length text.now) }
+{
+    text.iter().position(|b| *b == b'\n')
 }
