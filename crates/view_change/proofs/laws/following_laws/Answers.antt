@@ -1,0 +1,11 @@
+use Rattle.view_change.proofs.FollowingLaws.{begins, follows, settled_along, members_back, items_back}
+use Rattle.view_change.proofs.laws.following_laws.Goals as goal
+
+pub returns : goal.returns
+returns c = record {
+  begins = begins;
+  follows = follows;
+  settled = settled_along;
+  members = members_back;
+  items = items_back;
+}
