@@ -16,12 +16,12 @@ use Rattle.write_set.specs.Reading.{decoded}
 use Rattle.cert_meaning.specs.declared.members.Standing.{Standing}
 use Rattle.cert_meaning.specs.declared.parts.MemberItem.{MemberItem}
 use Rattle.cert_meaning.specs.State.{FoldState, no_events}
-use Rattle.cert_meaning.specs.Fold.{Effect, Same, Closes, Adds, Commits, effect_of, judged, judged_write, affected, written, with_serial, changed_by, floor_over, after, after_next, state_at, settled as fold_settled, reported as fold_reported}
+use Rattle.cert_meaning.specs.Fold.{Effect, Same, Closes, Adds, Commits, effect_of, judged, judged_write, affected, written, with_serial, changed_by, after, after_next, state_at, settled as fold_settled, reported as fold_reported}
 use Rattle.cert_meaning.specs.Parts.{member_item, member_entry}
 use Rattle.cert_meaning.proofs.TreeLemmas.{entries-tree}
-use Rattle.view_change.specs.Membership.{Membership, membership_of, no_members, IsSettled, settled, counted}
+use Rattle.view_change.specs.Membership.{membership_of, no_members, IsSettled, settled, counted}
 use Rattle.view_change.specs.Following.{counts_serial, after_write, after_event, BeginsEmpty, FollowsTheFold, SettledAlong, MembersComeBack, ItemsComeBack}
-use Rattle.view_change.proofs.FloorLemmas.{serial_keeps_floor}
+use Rattle.view_change.proofs.FloorLemmas.{reports_at, serial_keeps_floor}
 
 -- ---- before the first event, and at every point of an order
 pub begins : BeginsEmpty
@@ -35,18 +35,20 @@ least_stays (Some n) floor = refl
 settled_after : (s : FoldState) (event : Event) → IsSettled (membership_of (after s event))
 unfolding after
 settled_after s event =
-    least_stays
-    (least (map (λ (standing : Standing). standing.report) (map (λ e. e.1) (changed_by s event).members.entries)))
+    let standings = map (λ e. e.1) (changed_by s event).members.entries in
+    least_stays (least (map (λ (standing : Standing). standing.report) standings))
     (changed_by s event).floor
 
-settled_next : (s : FoldState) (o : Option Event) → IsSettled (membership_of s) → IsSettled (membership_of (after_next s o))
+settled_next : (s : FoldState) (o : Option Event) → IsSettled (membership_of s)
+    → IsSettled (membership_of (after_next s o))
 settled_next s None is = is
 settled_next s (Some event) is = settled_after s event
 
 pub settled_along : SettledAlong
 unfolding state_at no_events empty
 settled_along order zero = refl
-settled_along order (suc n) = settled_next (state_at order n) (slice_get order n) (settled_along order n)
+settled_along order (suc n) =
+    settled_next (state_at order n) (slice_get order n) (settled_along order n)
 
 -- ---- one event
 module _ (s : FoldState) (is_settled : IsSettled (membership_of s)) where
@@ -55,9 +57,8 @@ module _ (s : FoldState) (is_settled : IsSettled (membership_of s)) where
   unchanged = ap (λ floor. record { members = s.members; floor = floor }) is_settled
 
   serial_counted : (w : WriteSet)
-      → ◌≡◌ {A = Membership}
-      (record { members = with_serial s.members w.member w.serial; floor = floor_over (with_serial s.members w.member w.serial) s.floor })
-      (counted (membership_of s) w.member w.serial)
+      → settled (with_serial s.members w.member w.serial) s.floor
+      ≡ counted (membership_of s) w.member w.serial
   serial_counted w =
       ap (λ floor. record { members = with_serial s.members w.member w.serial; floor = floor })
       (serial_keeps_floor s.members w.member w.serial s.floor ∙ is_settled)
@@ -71,7 +72,8 @@ module _ (s : FoldState) (is_settled : IsSettled (membership_of s)) where
   by_effect w Commits = serial_counted w
 
   by_write : (member : ℕ) (o : Option WriteSet)
-      → membership_of (fold_settled (written s member o)) ≡ after_write (membership_of s) (judged_write s member o) o
+      → membership_of (fold_settled (written s member o))
+      ≡ after_write (membership_of s) (judged_write s member o) o
   by_write member None = unchanged
   by_write member (Some w) = by_effect w (effect_of (judged_write s member (Some w)))
 
@@ -83,16 +85,19 @@ module _ (s : FoldState) (is_settled : IsSettled (membership_of s)) where
 
   by_report : (member report : ℕ) (o : Option Standing)
       → membership_of (fold_settled (fold_reported s member report o))
-      ≡ cond (option_map_or (λ (standing : Standing). nat_le standing.report report && nat_lt report (s.number + 1)) o false)
-      (settled (option_map_or (λ (standing : Standing). insert s.members member (record standing { report = report })) o s.members) s.floor)
-      (membership_of s)
+      ≡ cond
+      (option_map_or
+      (λ (standing : Standing). nat_le standing.report report && nat_lt report (s.number + 1))
+      o false)
+      (settled (reports_at s.members member report o) s.floor) (membership_of s)
   by_report member report None = unchanged
   by_report member report (Some standing) =
       by_taken (insert s.members member (record standing { report = report }))
       (nat_le standing.report report && nat_lt report (s.number + 1))
 
   by_event : (event : Event)
-      → membership_of (after s event) ≡ after_event (membership_of s) (s.number + 1) (judged s event) event
+      → membership_of (after s event)
+      ≡ after_event (membership_of s) (s.number + 1) (judged s event) event
   unfolding after judged
   by_event (Write member body) = by_write member (decoded body)
   by_event (View version listed) = refl
@@ -102,7 +107,8 @@ pub follows : FollowsTheFold
 follows s event is_settled = by_event s is_settled event
 
 -- ---- the items
-entries_again : (entries : List (ℕ × Standing)) → map member_entry (map member_item entries) ≡ entries
+entries_again : (entries : List (ℕ × Standing))
+    → map member_entry (map member_item entries) ≡ entries
 entries_again [] = refl
 entries_again (entry ∷ entries) = ap (λ others. entry ∷ others) (entries_again entries)
 
@@ -110,19 +116,22 @@ items_again : (items : List MemberItem) → map member_item (map member_entry it
 items_again [] = refl
 items_again (item ∷ items) = ap (λ others. item ∷ others) (items_again items)
 
-keys_again : (items : List MemberItem) → keys_of (map member_entry items) ≡ map (λ (item : MemberItem). item.member) items
+keys_again : (items : List MemberItem)
+    → keys_of (map member_entry items) ≡ map (λ (item : MemberItem). item.member) items
 keys_again [] = refl
 keys_again (item ∷ items) = ap (λ others. item.member ∷ others) (keys_again items)
 
 own_entries : (members : FiniteMap nat_cmp Standing) → from_entries members.entries ≡ members
-own_entries members = same_map nat_cmp_total nat_cmp-IsAntisymmetric (from_entries members.entries) members (λ q.
+own_entries members =
+    same_map nat_cmp_total nat_cmp-IsAntisymmetric (from_entries members.entries) members (λ q.
     get-from_entries nat_cmp_total members.entries q ∙ sym (get-entries members q))
 
 pub members_back : MembersComeBack
-members_back members = ap (λ entries. from_entries entries) (entries_again members.entries) ∙ own_entries members
+members_back members =
+    ap (λ entries. from_entries entries) (entries_again members.entries) ∙ own_entries members
 
 pub items_back : ItemsComeBack
 items_back items rise =
-    ap (map member_item)
-    (entries-tree nat_cmp_total (map member_entry items) (subst (IsStrictlySortedBy nat_cmp) (sym (keys_again items)) rise))
+    let sorted = subst (IsStrictlySortedBy nat_cmp) (sym (keys_again items)) rise in
+    ap (map member_item) (entries-tree nat_cmp_total (map member_entry items) sorted)
     ∙ items_again items

@@ -39,7 +39,8 @@ after_event m number judged (Report member report) = reported m number member re
 abbrev pub FollowsTheFold : Type 0
 FollowsTheFold =
     (s : FoldState) (event : Event) → IsSettled (membership_of s)
-    → membership_of (after s event) ≡ after_event (membership_of s) (s.number + 1) (judged s event) event
+    → membership_of (after s event)
+    ≡ after_event (membership_of s) (s.number + 1) (judged s event) event
 
 -- before the first event of an order there is no member
 abbrev pub BeginsEmpty : Type 0
@@ -57,5 +58,6 @@ MembersComeBack =
 -- and items whose members rise are given back
 abbrev pub ItemsComeBack : Type 0
 ItemsComeBack =
-    (items : List MemberItem) → IsStrictlySortedBy nat_cmp (map (λ (item : MemberItem). item.member) items)
+    (items : List MemberItem)
+    → IsStrictlySortedBy nat_cmp (map (λ (item : MemberItem). item.member) items)
     → member_items (members_of items) ≡ items

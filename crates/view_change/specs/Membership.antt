@@ -44,7 +44,8 @@ is_taken members number member report =
 -- a member's last report is this one
 abbrev pub with_report : FiniteMap nat_cmp Standing → ℕ → ℕ → FiniteMap nat_cmp Standing
 with_report members member report =
-    option_map_or (λ (standing : Standing). insert members member (record standing { report = report }))
+    option_map_or
+    (λ (standing : Standing). insert members member (record standing { report = report }))
     (get members member) members
 
 -- a member reports; a report that does not count changes nothing

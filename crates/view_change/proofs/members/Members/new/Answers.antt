@@ -10,4 +10,5 @@ invariant_of-result c = ap (λ members. floor_over members 0) c.new.ensures
 
 pub returns-clause-members : goal.returns-clause-members
 unfolding no_members
-returns-clause-members c = ap {B = Membership} (λ members. record { members = members; floor = 0 }) c.new.ensures
+returns-clause-members c =
+    ap {B = Membership} (λ members. record { members = members; floor = 0 }) c.new.ensures
