@@ -10,3 +10,4 @@ pub mod Sources
 pub mod Statuses
 pub mod Writes
 mod WorkedRows
+mod WordExamples

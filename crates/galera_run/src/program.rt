@@ -78,10 +78,12 @@ fn do_load<K: Sink>(alloc: Global, asked: Asked, out: &mut K) -> u8
 {
     match run_load(alloc, asked.seed, asked.count, out) {
         Ok(_) => 0,
-        Err(RunFault::Write) => 4,
-        Err(RunFault::NoMemory) => 6,
-        // It has no input.
-        Err(RunFault::Script { .. } | RunFault::Read) => unreachable!(),
+        Err(fault) => match fault {
+            RunFault::Write => 4,
+            RunFault::NoMemory => 6,
+            // It has no input.
+            RunFault::Script { .. } | RunFault::Read => unreachable!(),
+        },
     }
 }
 
