@@ -209,7 +209,7 @@ same_reports member old new (e ∷ es) sorted there same =
     by : T (below_all nat_cmp e.0 es) → (r : Ordering) → nat_cmp member e.0 ≡ r
         → cond (is_eq r) (Some e.1) (find nat_cmp member es) ≡ Some old
         → (find nat_cmp member es ≡ Some old
-            → reports_in (put nat_cmp member new es) ≡ reports_in es)
+        → reports_in (put nat_cmp member new es) ≡ reports_in es)
         → reports_in
         (by_order r ((member, new) ∷ e ∷ es) ((e.0, new) ∷ es) (e ∷ put nat_cmp member new es))
         ≡ reports_in (e ∷ es)

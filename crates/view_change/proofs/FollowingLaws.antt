@@ -17,10 +17,10 @@ use Rattle.cert_meaning.specs.declared.members.Standing.{Standing}
 use Rattle.cert_meaning.specs.declared.parts.MemberItem.{MemberItem}
 use Rattle.cert_meaning.specs.State.{FoldState, no_events}
 use Rattle.cert_meaning.specs.Fold.{Effect, Same, Closes, Adds, Commits, effect_of, judged, judged_write, affected, written, with_serial, changed_by, after, after_next, state_at, settled as fold_settled, reported as fold_reported}
-use Rattle.cert_meaning.specs.Parts.{member_item, member_entry}
+use Rattle.cert_meaning.specs.Parts.{member_item, member_entry, member_items, members_of}
 use Rattle.cert_meaning.proofs.TreeLemmas.{entries-tree}
 use Rattle.view_change.specs.Membership.{membership_of, no_members, IsSettled, settled, counted}
-use Rattle.view_change.specs.Following.{counts_serial, after_write, after_event, BeginsEmpty, FollowsTheFold, SettledAlong, MembersComeBack, ItemsComeBack}
+use Rattle.view_change.specs.Following.{counts_serial, after_write, after_event, BeginsEmpty, FollowsTheFold, SettledAlong, ItemsComeBack}
 use Rattle.view_change.proofs.FloorLemmas.{reports_at, serial_keeps_floor}
 
 -- ---- before the first event, and at every point of an order
@@ -126,9 +126,13 @@ own_entries members =
     same_map nat_cmp_total nat_cmp-IsAntisymmetric (from_entries members.entries) members (λ q.
     get-from_entries nat_cmp_total members.entries q ∙ sym (get-entries members q))
 
-pub members_back : MembersComeBack
+-- what is made of the items of members has these members
+pub members_back : (members : FiniteMap nat_cmp Standing) → members_of (member_items members) ≡ members
 members_back members =
     ap (λ entries. from_entries entries) (entries_again members.entries) ∙ own_entries members
+
+-- the same, by a name that a function can cite
+pub ruleset members_again = (members_back)
 
 pub items_back : ItemsComeBack
 items_back items rise =

@@ -50,12 +50,7 @@ BeginsEmpty = membership_of no_events ≡ no_members
 abbrev pub SettledAlong : Type 0
 SettledAlong = (order : List Event) (n : ℕ) → IsSettled (membership_of (state_at order n))
 
--- what is made of the items of members has these members
-abbrev pub MembersComeBack : Type 0
-MembersComeBack =
-    (members : FiniteMap nat_cmp Standing) → members_of (member_items members) ≡ members
-
--- and items whose members rise are given back
+-- of what is made of items whose members rise, these are the items
 abbrev pub ItemsComeBack : Type 0
 ItemsComeBack =
     (items : List MemberItem)

@@ -108,9 +108,11 @@ impl Members {
         self.standings.set_serial(member, serial);
     }
 
-    /// The members, ascending.
+    /// The members, ascending. They are made of these items again.
+    #[tactic(auto, using(crate::proofs::FollowingLaws::members_again))]
     pub fn items(&self) -> Result<MemberItemList, NoMemory>
-        ensures { IfOk result (λ items. items ≡ member_items self.now.members) }
+        ensures items { IfOk result (λ items. items ≡ member_items self.now.members) }
+        ensures again { IfOk result (λ items. members_of items ≡ self.now.members) }
     {
         self.standings.items(self.alloc)
     }

@@ -1,4 +1,4 @@
-use Rattle.view_change.proofs.FollowingLaws.{begins, follows, settled_along, members_back, items_back}
+use Rattle.view_change.proofs.FollowingLaws.{begins, follows, settled_along, items_back}
 use Rattle.view_change.proofs.laws.following_laws.Goals as goal
 
 pub returns : goal.returns
@@ -6,6 +6,5 @@ returns c = record {
   begins = begins;
   follows = follows;
   settled = settled_along;
-  members = members_back;
   items = items_back;
 }
