@@ -226,7 +226,8 @@ serials_at members member serial = λ o.
     (λ (standing : Standing). insert members member (record standing { serial = serial }))
     o members
 
-serial_at : (members : Members) (member serial floor : ℕ) (o : Option Standing) → get members member ≡ o
+serial_at : (members : Members) (member serial floor : ℕ) (o : Option Standing)
+    → get members member ≡ o
     → floor_over (serials_at members member serial o) floor ≡ floor_over members floor
 serial_at members member serial floor None is = refl
 serial_at members member serial floor (Some standing) is =

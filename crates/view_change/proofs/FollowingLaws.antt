@@ -127,7 +127,8 @@ own_entries members =
     get-from_entries nat_cmp_total members.entries q ∙ sym (get-entries members q))
 
 -- what is made of the items of members has these members
-pub members_back : (members : FiniteMap nat_cmp Standing) → members_of (member_items members) ≡ members
+pub members_back : (members : FiniteMap nat_cmp Standing)
+    → members_of (member_items members) ≡ members
 members_back members =
     ap (λ entries. from_entries entries) (entries_again members.entries) ∙ own_entries members
 

@@ -2,13 +2,11 @@
 use Rattle.std.specs.Prelude.{◌≡◌, ℕ, ◌+◌, Bool, true, false, List, map, Option, None, Some, if◌then◌else◌}
 use Rattle.std.specs.List.Sorted.{IsStrictlySortedBy}
 use Rattle.std.specs.Ordering.{nat_cmp}
-use Rattle.finite_map.specs.FiniteMap.{FiniteMap}
 use Rattle.wsrep_base.specs.declared.verdict.Judged.{Judged}
 use Rattle.order_event.specs.declared.event.Event.{Event}
 use Rattle.order_event.specs.declared.event.Event.TheVariants.{Write, View, Report}
 use Rattle.write_set.specs.declared.write_set.WriteSet.{WriteSet}
 use Rattle.write_set.specs.Reading.{decoded}
-use Rattle.cert_meaning.specs.declared.members.Standing.{Standing}
 use Rattle.cert_meaning.specs.State.{FoldState, no_events}
 use Rattle.cert_meaning.specs.Fold.{Effect, Same, Closes, Adds, Commits, effect_of, judged, after, state_at}
 use Rattle.cert_meaning.specs.declared.parts.MemberItem.{MemberItem}
