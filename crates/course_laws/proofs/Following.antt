@@ -39,7 +39,7 @@ phase_moved : (order : List Event) (given : Type 0) (n : ModelNode) (k : Kind) (
 phase_moved order given n k m (Tells s) = refl
 phase_moved order given n k m _ = refl
 
-synced_moved : (order : List Event) (given : Type 0) (n : ModelNode) (k : Kind) (m : ModelNode)
+pub synced_moved : (order : List Event) (given : Type 0) (n : ModelNode) (k : Kind) (m : ModelNode)
     → Move order given n k m → n.at.view ≤ n.at.committed → m.at.view ≤ m.at.committed
 synced_moved order given n k m (Advances may none) h = omega (arith, h)
 synced_moved order given n k m (Commits s t may there is) h = omega (arith, h)
@@ -60,10 +60,10 @@ module _ (order : List Event) (member : ℕ) (keeps : AllKeep order member) (giv
         h.facts h.stage;
   }
 
-  quiet_not : Quiet ≡ Pays → ⊥
+  pub quiet_not : Quiet ≡ Pays → ⊥
   quiet_not is = cc
 
-  works_not : Works ≡ Pays → ⊥
+  pub works_not : Works ≡ Pays → ⊥
   works_not is = cc
 
   -- a row in which none pays
@@ -109,7 +109,7 @@ module _ (order : List Event) (given : Type 0) (n : ModelNode) (s : ℕ) (c : Ca
   told_still (Some waiting) otherwise row = one 0 n _ (Tells s)
   told_still None otherwise row = row
 
-  client_still : Reaches order given true n 0 (client order n s c).1
+  pub client_still : Reaches order given true n 0 (client order n s c).1
   unfolding client
   client_still = told_still (get n.waiting s) (asked order n s (get n.live s) c)
       (asked_still (get n.live s))

@@ -24,7 +24,7 @@ use Rattle.course_laws.proofs.CourseLaws.{Kept, kept_laws, from_start}
 use Rattle.course_laws.proofs.Growing.{front_get}
 
 -- ---- one node takes another's place
-set_here : (xs : List ModelNode) (i : ℕ) (n a : ModelNode) → slice_get xs i ≡ Some n
+pub set_here : (xs : List ModelNode) (i : ℕ) (n a : ModelNode) → slice_get xs i ≡ Some n
     → slice_get (set_at xs i a) i ≡ Some a
 set_here [] i n a there = cc
 set_here (x ∷ xs) zero n a there = refl
@@ -39,16 +39,16 @@ set_beside (x ∷ xs) (suc j) zero a differ = refl
 set_beside (x ∷ xs) (suc j) (suc i) a differ =
     set_beside xs j i a (λ same. differ (ap suc same))
 
-abbrev at_node : List Event → ModelNode → Course
+abbrev pub at_node : List Event → ModelNode → Course
 at_node order n = record { order = order; node = n }
 
 -- what a step of the cluster is for the node at a place
-record StepOf (c d : ModelCluster) (i : ℕ) (n : ModelNode) : Type 0 where
-  happens : Happens
-  fits : Fits (at_node c.order n) happens
-  node : ModelNode
-  there : slice_get d.nodes i ≡ Some node
-  leads : next (at_node c.order n) happens ≡ at_node d.order node
+pub record StepOf (c d : ModelCluster) (i : ℕ) (n : ModelNode) : Type 0 where
+  pub happens : Happens
+  pub fits : Fits (at_node c.order n) happens
+  pub node : ModelNode
+  pub there : slice_get d.nodes i ≡ Some node
+  pub leads : next (at_node c.order n) happens ≡ at_node d.order node
 
 module _ (c : ModelCluster) (i : ℕ) (n : ModelNode) (there : slice_get c.nodes i ≡ Some n) where
   -- nothing
@@ -176,7 +176,7 @@ module _ (c : ModelCluster) (i : ℕ) (n : ModelNode) (there : slice_get c.nodes
       let beside : j ≡ i → ⊥ = λ here. true≢false (sym (eq-eqb j i here) ∙ same) in
       other_step j m beside (λ one. beside (differ j i m n at there one)) a
 
-  cluster_step_of : Differ c.nodes → (step : Step) → ActFits step.act
+  pub cluster_step_of : Differ c.nodes → (step : Step) → ActFits step.act
       → StepOf c (cluster_step c step).1 i n
   unfolding cluster_step
   cluster_step_of differ step fits =
@@ -223,7 +223,7 @@ last_at [] a (suc k) is = absurd (omega (arith, is))
 last_at (x ∷ xs) a zero is = absurd (omega (arith, is))
 last_at (x ∷ xs) a (suc k) is = last_at xs a k (omega (arith, is))
 
-numbered : (nodes : ℕ) → AllByRecursion (λ m. m ≤ nodes) (up_to nodes)
+pub numbered : (nodes : ℕ) → AllByRecursion (λ m. m ≤ nodes) (up_to nodes)
 numbered zero = tt
 numbered (suc nodes) =
     all_push (λ m. m ≤ suc nodes) (up_to nodes) (suc nodes)
@@ -251,7 +251,7 @@ module _ (id : List ℕ) where
       last_at (starts nodes) (start_node id (suc nodes)) i (here ∙ sym (start_count nodes))
       ∙ ap (λ k. Some (start_node id (suc k))) (sym here)
 
-  start_at : (nodes i : ℕ) → i < nodes
+  pub start_at : (nodes i : ℕ) → i < nodes
       → slice_get (starts nodes) i ≡ Some (start_node id (suc i))
   start_at zero i below = absurd (omega (arith, below))
   start_at (suc nodes) i below =

@@ -41,7 +41,7 @@ pub record CanTakeBack (n : ModelNode) : Type 0 where
   pub begin : n.at.begin < 2 ^ 64
 
 -- moves that pay nothing and commit nothing leave it so
-still_back : (n m : ModelNode) → Grows 0 n m → m.at.committed ≡ n.at.committed → CanTakeBack n → CanTakeBack m
+pub still_back : (n m : ModelNode) → Grows 0 n m → m.at.committed ≡ n.at.committed → CanTakeBack n → CanTakeBack m
 still_back n m grows committed can = record {
   member = subst (λ k. k < 2 ^ 32) (sym grows.member) can.member;
   committed = subst (λ k. k < 2 ^ 64) (sym committed) can.committed;
@@ -49,13 +49,13 @@ still_back n m grows committed can = record {
   begin = omega (arith, grows.begin, can.begin);
 }
 
-range_back : (n : ModelNode) (s : ℕ) (t : Live) → get n.live s ≡ Some t → CanTakeBack n → ProgressInRange n.at
+pub range_back : (n : ModelNode) (s : ℕ) (t : Live) → get n.live s ≡ Some t → CanTakeBack n → ProgressInRange n.at
 range_back n s t there can =
     let l = len-left numbers n.live s t there in
     record { member = can.member; committed = can.committed; serial = omega (arith, can.serial, l); begin = can.begin }
 
 -- ---- kills change live transactions, waiting answers and what is sent alone, whatever the units are
-abbrev IsOnly : ModelNode → ModelNode → Type 0
+abbrev pub IsOnly : ModelNode → ModelNode → Type 0
 IsOnly n m =
     m ≡ record n {
       at = record n.at { serial = m.at.serial };
@@ -64,7 +64,7 @@ IsOnly n m =
       waiting = m.waiting;
     }
 
-abbrev over : FiniteMap nat_cmp ApplyUnit → ModelNode → ModelNode
+abbrev pub over : FiniteMap nat_cmp ApplyUnit → ModelNode → ModelNode
 over units n = record n { units = units }
 
 any_only : (n : ModelNode) (s : ℕ) (due : Option WriteSet) (x : Outcome × Live) → IsOnly n (told (send_any n due) s x)
@@ -81,7 +81,7 @@ any_over units n s (Some w) (Lives, t) = refl
 any_over units n s (Some w) (Stops reply, t) = refl
 
 module _ (number : ℕ) where
-  session_only : (n : ModelNode) (s : ℕ) (o : Option Live) → IsOnly n (killed_session number n s o)
+  pub session_only : (n : ModelNode) (s : ℕ) (o : Option Live) → IsOnly n (killed_session number n s o)
   session_only n s None = refl
   session_only n s (Some t) = any_only n s (rollback_due t n.at.serial n.at.committed) (killed_by number t)
 
@@ -102,7 +102,7 @@ module _ (number : ℕ) where
         waiting = last.waiting;
       }) (session_only n v (get n.live v))
 
-  kills_over : (units : FiniteMap nat_cmp ApplyUnit) (victims : List ℕ) (n : ModelNode)
+  pub kills_over : (units : FiniteMap nat_cmp ApplyUnit) (victims : List ℕ) (n : ModelNode)
       → fold (kill_session number) (over units n) victims ≡ over units (fold (kill_session number) n victims)
   kills_over units [] n = refl
   kills_over units (v ∷ vs) n =
@@ -111,7 +111,7 @@ module _ (number : ℕ) where
 -- ---- one transaction is killed
 module _ (order : List Event) (given : Type 0) (number : ℕ) where
   -- what is known of each node on the way
-  abbrev Room : ModelNode → Type 0
+  abbrev pub Room : ModelNode → Type 0
   Room n = given → n.at.committed ≤ length order → CanTakeBack n
 
   status_moves : (n : ModelNode) (s : ℕ) (t : Live) (st : Status) → get n.live s ≡ Some t → t.status ≡ st
@@ -149,7 +149,7 @@ module _ (order : List Event) (given : Type 0) (number : ℕ) where
     due_moves None due = status_moves n s t t.status there refl
     due_moves (Some w) due = back_moves w due t.status (due_open w (is_uncommitted t.status) (nat_lt 0 t.sent) due)
 
-  session_moves : (n : ModelNode) (s : ℕ) (o : Option Live) → get n.live s ≡ o → Room n → Reaches order given true n 0 (killed_session number n s o)
+  pub session_moves : (n : ModelNode) (s : ℕ) (o : Option Live) → get n.live s ≡ o → Room n → Reaches order given true n 0 (killed_session number n s o)
   session_moves n s None there room = Here
   session_moves n s (Some t) there room = due_moves n s t there room (rollback_due t n.at.serial n.at.committed) refl
 
