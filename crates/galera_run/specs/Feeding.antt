@@ -20,8 +20,8 @@ use Rattle.galera_run.specs.Lines.{lines_to, last_line}
 use Rattle.galera_run.specs.Reading.{Told, opened, fault, front, told_from, line_at, answer_line, most_bytes, most_steps, most_events}
 use Rattle.galera_run.specs.Writing.{IsFrontOf, AppendsFront}
 
--- a cluster of so many nodes, with its counts within their limits, over a group that never failed; what it has given out is no
--- more than one for each step
+-- a cluster of so many nodes, with its counts within their limits, over a group that never failed;
+-- what it has given out is no more than one for each step
 pub record IsCounted (steps : ℕ) (o : Opened) : Type 0 where
   pub nodes : length o.cluster.model.nodes ≡ o.nodes
   pub events : length o.cluster.model.order ≤ most_events
@@ -58,7 +58,8 @@ pub record GoesOn (before after : Script) (taken text : List ℕ) : Type 0 where
       told_by last before (taken ++ bytes) ≡ front text (told_by last after bytes)
 
 -- the bytes printed the text and were refused there, whatever follows
-pub record IsRefused (before : Script) (taken text : List ℕ) (number : ℕ) (c : ScriptCause) : Type 0 where
+pub record IsRefused (before : Script) (taken text : List ℕ) (number : ℕ)
+    (c : ScriptCause) : Type 0 where
   pub rest : (bytes : List ℕ) →
       told_by last_line before (taken ++ bytes) ≡ record { text = text; reached = fault number c }
 
@@ -68,7 +69,8 @@ pub record Feeds (before after : Script) (taken : List ℕ) (old new : Option (L
   pub written : Appends old new text
   pub goes_on : GoesOn before after taken text
 
-pub record Refuses (before : Script) (taken : List ℕ) (old new : Option (List ℕ)) (number : ℕ) (c : ScriptCause) : Type 0 where
+pub record Refuses (before : Script) (taken : List ℕ) (old new : Option (List ℕ)) (number : ℕ)
+    (c : ScriptCause) : Type 0 where
   pub text : List ℕ
   pub written : Appends old new text
   pub is_refused : IsRefused before taken text number c
@@ -93,36 +95,44 @@ Stops before taken old new stop.Write = CutsShort before taken old new
 Stops before taken old new stop.NoMemory = Halts before taken old new
 
 -- a run over a source read some of its bytes
-pub record Reads (left_old left_new : Option (List ℕ)) (before after : Script) (old new : Option (List ℕ)) : Type 0 where
+pub record Reads (left_old left_new : Option (List ℕ)) (before after : Script)
+    (old new : Option (List ℕ)) : Type 0 where
   pub taken : List ℕ
   pub consumed : Consumes left_old left_new taken
   pub feeds : Feeds before after taken old new
   pub count : read_count after ≡ read_count before + length taken
 
 -- and was refused there
-pub record ReadsRefused (left_old left_new : Option (List ℕ)) (before : Script) (old new : Option (List ℕ)) (number : ℕ) (c : ScriptCause) : Type 0 where
+pub record ReadsRefused (left_old left_new : Option (List ℕ)) (before : Script)
+    (old new : Option (List ℕ)) (number : ℕ) (c : ScriptCause) : Type 0 where
   pub taken : List ℕ
   pub consumed : Consumes left_old left_new taken
   pub refuses : Refuses before taken old new number c
 
 -- and could not go on there
-pub record ReadsCut (left_old left_new : Option (List ℕ)) (before : Script) (old new : Option (List ℕ)) : Type 0 where
+pub record ReadsCut (left_old left_new : Option (List ℕ)) (before : Script)
+    (old new : Option (List ℕ)) : Type 0 where
   pub taken : List ℕ
   pub consumed : Consumes left_old left_new taken
   pub cuts : CutsShort before taken old new
 
 -- and had no memory there
-pub record ReadsHalted (left_old left_new : Option (List ℕ)) (before : Script) (old new : Option (List ℕ)) : Type 0 where
+pub record ReadsHalted (left_old left_new : Option (List ℕ)) (before : Script)
+    (old new : Option (List ℕ)) : Type 0 where
   pub taken : List ℕ
   pub consumed : Consumes left_old left_new taken
   pub halts : Halts before taken old new
 
 -- how a run over a source may stop before its end
-abbrev pub ReadStops : Option (List ℕ) → Option (List ℕ) → Script → Option (List ℕ) → Option (List ℕ) → RunFault → Type 0
-ReadStops left_old left_new before old new (stop.Script number c) = ReadsRefused left_old left_new before old new number c
-ReadStops left_old left_new before old new stop.Read = (after : Script) × Reads left_old left_new before after old new × IsSound after
+abbrev pub ReadStops : Option (List ℕ) → Option (List ℕ) → Script → Option (List ℕ)
+    → Option (List ℕ) → RunFault → Type 0
+ReadStops left_old left_new before old new (stop.Script number c) =
+    ReadsRefused left_old left_new before old new number c
+ReadStops left_old left_new before old new stop.Read =
+    (after : Script) × Reads left_old left_new before after old new × IsSound after
 ReadStops left_old left_new before old new stop.Write = ReadsCut left_old left_new before old new
-ReadStops left_old left_new before old new stop.NoMemory = ReadsHalted left_old left_new before old new
+ReadStops left_old left_new before old new stop.NoMemory =
+    ReadsHalted left_old left_new before old new
 
 -- the next line is within the bytes allowed, and a cluster of its own is within its counts
 pub record IsRoomFor (p : Place) (line : List ℕ) (state : Option Opened) : Type 0 where

@@ -1,7 +1,8 @@
 -- the lines of an input
 use Rattle.std.specs.Prelude.{ℕ, ◌==◌, List, [], ◌∷◌, ◌++◌, if◌then◌else◌}
 
--- the lines of the bytes behind a begun line, each with the newline that ends it; `last` is what becomes of a line that no newline ends
+-- the lines of the bytes behind a begun line, each with the newline that ends it; `last` is what
+-- becomes of a line that no newline ends
 abbrev pub lines_to : (List ℕ → List (List ℕ)) → List ℕ → List ℕ → List (List ℕ)
 lines_to last begun [] = last begun
 lines_to last begun (b ∷ bs) =

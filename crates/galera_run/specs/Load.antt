@@ -57,16 +57,19 @@ pub record IsWithin (load : Workload) : Type 0 where
 -- a step was run, and its answer counted
 pub record IsStepped (before : Workload) (step : Step) (after : Workload) : Type 0 where
   pub steps : after.steps ≡ before.steps + 1
-  pub counts : after.counts ≡ together before.counts (counts_of ((cluster_step before.cluster.model step).0 ∷ []))
+  pub counts : after.counts
+      ≡ together before.counts (counts_of ((cluster_step before.cluster.model step).0 ∷ []))
   pub model : after.cluster.model ≡ (cluster_step before.cluster.model step).1
 
 -- with the answers of the steps that are left, the counts and the cluster are those of all steps
 pub record LeadsTo (all : List Step) (load : Workload) (left : List Step) : Type 0 where
   pub steps : load.steps + length left ≡ length all
-  pub counts : together load.counts (counts_of (run left load.cluster.model).0) ≡ counts_of (run all load_start).0
+  pub counts : together load.counts (counts_of (run left load.cluster.model).0)
+      ≡ counts_of (run all load_start).0
   pub model : (run left load.cluster.model).1 ≡ (run all load_start).1
 
--- a run of some of all steps: a cluster of three nodes can make those that are left, and they are few
+-- a run of some of all steps: a cluster of three nodes can make those that are left, and they are
+-- few
 pub record IsUnderWay (all : List Step) (load : Workload) (left : List Step) : Type 0 where
   pub within : IsWithin load
   pub leads : LeadsTo all load left

@@ -22,11 +22,13 @@ pub record TellsAll (run : Run) (old new : Option (List ℕ)) (done : Finished) 
   pub written : Appends old new run.text
 
 -- the run is refused at this line, and the text of the lines before it was written
-pub record TellsRefusal (run : Run) (old new : Option (List ℕ)) (number : ℕ) (c : ScriptCause) : Type 0 where
+pub record TellsRefusal (run : Run) (old new : Option (List ℕ)) (number : ℕ)
+    (c : ScriptCause) : Type 0 where
   pub ending : run.ending ≡ refused number c
   pub written : Appends old new run.text
 
--- how a run may stop at the end of its input; without memory the last line's text was written, or nothing
+-- how a run may stop at the end of its input; without memory the last line's text was written, or
+-- nothing
 abbrev pub EndStops : Told → Option (List ℕ) → Option (List ℕ) → RunFault → Type 0
 EndStops told old new (stop.Script number c) = TellsRefusal (run_told told) old new number c
 EndStops told old new stop.Read = ⊥
@@ -39,7 +41,8 @@ pub record TellsFirst (input : List ℕ) (old new : Option (List ℕ)) : Type 0 
   pub written : Appends old new (first_text count input)
   pub is_front : IsFrontOf (first_text count input) (run_of input).text
 
--- these bytes were read, no more than are allowed, and none of the lines whose newline is among them is refused
+-- these bytes were read, no more than are allowed, and none of the lines whose newline is among
+-- them is refused
 pub record IsRead (left_old left_new : Option (List ℕ)) (taken : List ℕ) : Type 0 where
   pub read : Consumes left_old left_new taken
   pub within : length taken ≤ most_bytes
@@ -57,9 +60,12 @@ abbrev pub RunTells : Option (List ℕ) → Option (List ℕ) → Option (List �
 RunTells left old new done = IfSome left (λ input. TellsAll (run_of input) old new done)
 
 -- how a run may stop, over a source with these bytes left before and after
-abbrev pub RunStops : Option (List ℕ) → Option (List ℕ) → Option (List ℕ) → Option (List ℕ) → RunFault → Type 0
+abbrev pub RunStops : Option (List ℕ) → Option (List ℕ) → Option (List ℕ) → Option (List ℕ)
+    → RunFault → Type 0
 RunStops left_old left_new old new (stop.Script number c) =
     IfSome left_old (λ input. TellsRefusal (run_of input) old new number c)
 RunStops left_old left_new old new stop.Read = TellsRead left_old left_new old new
-RunStops left_old left_new old new stop.Write = IfSome left_old (λ input. AppendsFront old new (run_of input).text)
-RunStops left_old left_new old new stop.NoMemory = IfSome left_old (λ input. TellsFirst input old new)
+RunStops left_old left_new old new stop.Write =
+    IfSome left_old (λ input. AppendsFront old new (run_of input).text)
+RunStops left_old left_new old new stop.NoMemory =
+    IfSome left_old (λ input. TellsFirst input old new)

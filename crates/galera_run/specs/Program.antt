@@ -26,7 +26,8 @@ cause_text cause.Limit = codes "limit"
 
 -- the last text where a line is refused
 abbrev pub refusal_text : ℕ → ScriptCause → List ℕ
-refusal_text number c = codes "SCRIPT" ++ spaced (number ∷ []) ++ codes " " ++ cause_text c ++ codes "\n"
+refusal_text number c =
+    codes "SCRIPT" ++ spaced (number ∷ []) ++ codes " " ++ cause_text c ++ codes "\n"
 
 abbrev pub last_text : Ending → List ℕ
 last_text (finished steps cluster) = []
@@ -36,12 +37,14 @@ last_text (refused number c) = refusal_text number c
 abbrev pub printed_of : List ℕ → List ℕ
 printed_of input = (run_of input).text ++ last_text (run_of input).ending
 
--- how many faults the source and the sink counted, before and after: the source's count rose at status 3, the sink's at 4, and
--- neither at any other; there is no other than these. Whether the source's count rose at 4 is said with what went out
+-- how many faults the source and the sink counted, before and after: the source's count rose at
+-- status 3, the sink's at 4, and neither at any other; there is no other than these. Whether the
+-- source's count rose at 4 is said with what went out
 abbrev pub HasCauses : ℕ → ℕ → ℕ → ℕ → ℕ → Type 0
 HasCauses status source_old source_new sink_old sink_new =
     (((status ≤ 2) ⊎ (status ≡ 6)) × (source_new ≡ source_old) × (sink_new ≡ sink_old))
-    ⊎ (((status ≡ 3) × Rose source_old source_new × (sink_new ≡ sink_old)) ⊎ ((status ≡ 4) × Rose sink_old sink_new))
+    ⊎ (((status ≡ 3) × Rose source_old source_new × (sink_new ≡ sink_old))
+    ⊎ ((status ≡ 4) × Rose sink_old sink_new))
 
 -- the sink's count as the last line is written: it stays at the status meant, and rose at 4
 abbrev pub EndsAs : ℕ → ℕ → ℕ → ℕ → Type 0
@@ -51,7 +54,8 @@ EndsAs meant status old new = ((status ≡ meant) × (new ≡ old)) ⊎ ((status
 abbrev pub IsNoCommand : List (List ℕ) → Type 0
 IsNoCommand words = (¬ IsSteps words) × (load_asked words ≡ None)
 
--- then the text was written, or a front of it where the sink failed, unless memory was wanting to read the words
+-- then the text was written, or a front of it where the sink failed, unless memory was wanting to
+-- read the words
 abbrev pub EndsUsage : ℕ → Option (List ℕ) → Option (List ℕ) → Type 0
 EndsUsage status old new =
     ((status ≡ 1) × Appends old new usage_text)
@@ -70,7 +74,8 @@ CutsAsked (Some a) old new = AppendsFront old new (load_summary a.seed a.count)
 -- the run came to the end of its input, its whole text was written, and no byte is left
 abbrev pub TellsEnd : Option (List ℕ) → Option (List ℕ) → Option (List ℕ) → Option (List ℕ) → Type 0
 TellsEnd left_old left_new old new =
-    IfSome left_old (λ input. (done : Finished) × TellsAll (run_of input) old new done) × IsAtEnd left_new
+    IfSome left_old (λ input. (done : Finished) × TellsAll (run_of input) old new done)
+    × IsAtEnd left_new
 
 -- the text of the first lines was written, and no more
 abbrev pub TellsLines : Option (List ℕ) → Option (List ℕ) → Option (List ℕ) → Type 0
@@ -86,7 +91,8 @@ pub record IsRefusal (input : List ℕ) (old new : Option (List ℕ)) : Type 0 w
 abbrev pub TellsRefused : Option (List ℕ) → Option (List ℕ) → Option (List ℕ) → Type 0
 TellsRefused left old new = IfSome left (λ input. IsRefusal input old new)
 
--- bytes were read, none of whose lines is refused; their text was written, and that the source failed
+-- bytes were read, none of whose lines is refused; their text was written, and that the source
+-- failed
 pub record TellsUnread (left_old left_new old new : Option (List ℕ)) : Type 0 where
   pub taken : List ℕ
   pub is_read : IsRead left_old left_new taken
@@ -102,7 +108,10 @@ pub record CutsUnread (left_old left_new old new : Option (List ℕ)) : Type 0 w
 abbrev pub CutsText : Option (List ℕ) → Option (List ℕ) → Option (List ℕ) → Type 0
 CutsText left old new = IfSome left (λ input. AppendsFront old new (printed_of input))
 
--- what went out is a front of the text of the run, which ends where the source fails; the source's count rose there alone
-abbrev pub CutsRun : Option (List ℕ) → Option (List ℕ) → ℕ → ℕ → Option (List ℕ) → Option (List ℕ) → Type 0
+-- what went out is a front of the text of the run, which ends where the source fails; the source's
+-- count rose there alone
+abbrev pub CutsRun : Option (List ℕ) → Option (List ℕ) → ℕ → ℕ → Option (List ℕ) → Option (List ℕ)
+    → Type 0
 CutsRun left_old left_new before now old new =
-    ((now ≡ before) × CutsText left_old old new) ⊎ (Rose before now × CutsUnread left_old left_new old new)
+    ((now ≡ before) × CutsText left_old old new)
+    ⊎ (Rose before now × CutsUnread left_old left_new old new)

@@ -40,15 +40,20 @@ abbrev pub opened : ℕ → ModelCluster → Opened
 opened nodes model = record { nodes = nodes; cluster = record { model = model; faults = 0 } }
 
 -- up to the header, a line is passed over, or is the header, which begins the cluster
-abbrev pub opened_at : Place → List ℕ → Result (Option Header) ScriptCause → Result (Option Answer × Place) ScriptCause
+abbrev pub opened_at : Place → List ℕ → Result (Option Header) ScriptCause
+    → Result (Option Answer × Place) ScriptCause
 opened_at p line (Err c) = Err c
 opened_at p line (Ok None) = Ok (None, behind p line p.steps None)
 opened_at p line (Ok (Some header)) =
-    Ok (None, behind p line p.steps (Some (opened header.nodes (start_cluster header.nodes header.id))))
+    Ok (
+      None,
+      behind p line p.steps (Some (opened header.nodes (start_cluster header.nodes header.id))),
+    )
 
 -- a step is answered, and the cluster stands as it left it
 abbrev pub answered_at : Place → List ℕ → ℕ → Answer × ModelCluster → Option Answer × Place
-answered_at p line nodes (answer, model) = (Some answer, behind p line (p.steps + 1) (Some (opened nodes model)))
+answered_at p line nodes (answer, model) =
+    (Some answer, behind p line (p.steps + 1) (Some (opened nodes model)))
 
 -- one step line more is allowed, and so are the events that the step is going to order
 abbrev pub is_within : ℕ → ModelCluster → Step → Bool
@@ -56,18 +61,21 @@ is_within steps model step =
     nat_lt steps most_steps && nat_le (length model.order + will_order model step) most_events
 
 -- a line behind the header; a step that would pass a limit is refused, and nothing of it is done
-abbrev pub stepped_at : Place → List ℕ → Opened → Result Line ScriptCause → Result (Option Answer × Place) ScriptCause
+abbrev pub stepped_at : Place → List ℕ → Opened → Result Line ScriptCause
+    → Result (Option Answer × Place) ScriptCause
 stepped_at p line o (Err c) = Err c
 stepped_at p line o (Ok said.Blank) = Ok (None, behind p line p.steps (Some o))
 stepped_at p line o (Ok (said.Step step)) =
-    if is_within p.steps o.cluster.model step then Ok (answered_at p line o.nodes (cluster_step o.cluster.model step))
+    if is_within p.steps o.cluster.model step
+    then Ok (answered_at p line o.nodes (cluster_step o.cluster.model step))
     else Err cause.Limit
 
 abbrev pub read_at : Place → List ℕ → Option Opened → Result (Option Answer × Place) ScriptCause
 read_at p line None = opened_at p line (first_of line)
 read_at p line (Some o) = stepped_at p line o (line_of o.nodes line)
 
--- what a line at a place is answered, if it is a step, and where the run stands behind it; a line that passes the last byte allowed is refused, whatever it says
+-- what a line at a place is answered, if it is a step, and where the run stands behind it; a line
+-- that passes the last byte allowed is refused, whatever it says
 abbrev pub line_at : Place → List ℕ → Result (Option Answer × Place) ScriptCause
 line_at p line =
     if nat_le (p.before + length line) most_bytes then read_at p line p.state else Err cause.Limit
@@ -136,11 +144,17 @@ pub record Run : Type 0 where
   pub ending : Ending
 
 abbrev pub run_told : Told → Run
-run_told told = record { text = told.text ++ end_text (ending_of told.reached); ending = ending_of told.reached }
+run_told told =
+    record {
+      text = told.text
+          ++ end_text (ending_of told.reached);
+      ending = ending_of told.reached;
+    }
 
 -- a run that ends with this cluster
 abbrev pub run_ended : ℕ → ModelCluster → Run
-run_ended steps model = record { text = end_text (finished steps model); ending = finished steps model }
+run_ended steps model =
+    record { text = end_text (finished steps model); ending = finished steps model }
 
 unfoldable pub run_of : List ℕ → Run
 run_of bytes = run_told (told_from start (lines_of bytes))

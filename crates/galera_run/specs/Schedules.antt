@@ -29,7 +29,8 @@ said_step number (Ok (said.Step step)) = line_step number step ∷ []
 -- the steps of lines behind the header, the first of which has this number
 abbrev pub steps_behind : ℕ → ℕ → List (List ℕ) → List LineStep
 steps_behind nodes number [] = []
-steps_behind nodes number (line ∷ lines) = said_step number (line_of nodes line) ++ steps_behind nodes (number + 1) lines
+steps_behind nodes number (line ∷ lines) =
+    said_step number (line_of nodes line) ++ steps_behind nodes (number + 1) lines
 
 -- a header, where there is one, and the steps behind it
 pub record Schedule : Type 0 where
@@ -39,8 +40,10 @@ pub record Schedule : Type 0 where
 abbrev pub no_schedule : Schedule
 no_schedule = record { header = None; steps = [] }
 
--- what a line before the header is: a fault ends the schedule, and what is passed over leaves it to the later lines
-abbrev pub schedule_at : ℕ → Result (Option Header) ScriptCause → List (List ℕ) → Schedule → Schedule
+-- what a line before the header is: a fault ends the schedule, and what is passed over leaves it to
+-- the later lines
+abbrev pub schedule_at : ℕ → Result (Option Header) ScriptCause → List (List ℕ) → Schedule
+    → Schedule
 schedule_at number (Err c) lines later = no_schedule
 schedule_at number (Ok None) lines later = later
 schedule_at number (Ok (Some header)) lines later =
@@ -49,7 +52,8 @@ schedule_at number (Ok (Some header)) lines later =
 -- the schedule of lines, the first of which has this number
 abbrev pub schedule_from : ℕ → List (List ℕ) → Schedule
 schedule_from number [] = no_schedule
-schedule_from number (line ∷ lines) = schedule_at number (first_of line) lines (schedule_from (number + 1) lines)
+schedule_from number (line ∷ lines) =
+    schedule_at number (first_of line) lines (schedule_from (number + 1) lines)
 
 -- the run over steps from a cluster on
 abbrev pub run_over : List LineStep → ModelCluster → List Answer × ModelCluster
@@ -59,7 +63,8 @@ run_over steps model = run (map (λ (s : LineStep). s.step) steps) model
 abbrev pub answers_text : List LineStep → List Answer → List ℕ
 answers_text [] answers = []
 answers_text (s ∷ steps) [] = []
-answers_text (s ∷ steps) (answer ∷ answers) = line_text s.number answer ++ answers_text steps answers
+answers_text (s ∷ steps) (answer ∷ answers) =
+    line_text s.number answer ++ answers_text steps answers
 
 -- the cluster that a header begins
 abbrev pub cluster_of : Header → ModelCluster
@@ -80,12 +85,16 @@ pub record IsRunTo (s : Schedule) (steps : ℕ) (cluster : ModelCluster) : Type 
   pub count : steps ≡ length s.steps
   pub after : cluster ≡ (run_over s.steps (cluster_of header)).1
 
--- the text of a run over lines is that of the run over their steps; where it is refused at a line, over those of the lines before it
+-- the text of a run over lines is that of the run over their steps; where it is refused at a line,
+-- over those of the lines before it
 abbrev pub EndsOver : List (List ℕ) → List ℕ → Ending → Type 0
 EndsOver lines text (finished steps cluster) =
-    (text ≡ text_of_steps (schedule_from 1 lines) ++ end_text (finished steps cluster)) × IsRunTo (schedule_from 1 lines) steps cluster
-EndsOver lines text (refused number c) = text ≡ text_of_steps (schedule_from 1 (take (number - 1) lines))
+    (text ≡ text_of_steps (schedule_from 1 lines) ++ end_text (finished steps cluster))
+    × IsRunTo (schedule_from 1 lines) steps cluster
+EndsOver lines text (refused number c) =
+    text ≡ text_of_steps (schedule_from 1 (take (number - 1) lines))
 
 -- for each input
 abbrev pub RunsOverSteps : Type 0
-RunsOverSteps = (input : List ℕ) → EndsOver (lines_of input) (run_of input).text (run_of input).ending
+RunsOverSteps =
+    (input : List ℕ) → EndsOver (lines_of input) (run_of input).text (run_of input).ending

@@ -21,7 +21,8 @@ option_rule name = record (new_rule name) { long = Some name; required = true }
 
 abbrev pub load_app : App
 load_app =
-    with_rule (with_rule (new_app (codes "load")) (option_rule (codes "seed"))) (option_rule (codes "count"))
+    with_rule (with_rule (new_app (codes "load")) (option_rule (codes "seed")))
+    (option_rule (codes "count"))
 
 -- a command that refuses its words for no kind of fault takes them
 abbrev pub passes : Kinds → Bool
@@ -46,7 +47,8 @@ numbers_of rows =
 -- the workload that the words ask for: they begin with `load`, and the command takes the others
 unfoldable pub load_asked : List (List ℕ) → Option Asked
 load_asked words =
-    if is_load words && passes (fault_of load_app words) then numbers_of (matches_of load_app words) else None
+    if is_load words && passes (fault_of load_app words) then numbers_of (matches_of load_app words)
+    else None
 
 -- the count of what is asked for is one that may be
 abbrev pub HasCount : Option Asked → Type 0

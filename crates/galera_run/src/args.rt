@@ -13,7 +13,8 @@ use std::io::ErrorKind;
 pub(crate) fn words_of(alloc: Global, given: io::Result<Args>) -> Result<Vec<String>, AllocError>
     ensures ok { IfOk result (λ words. words.items ≡ words_behind given) }
     // Where no words were given, there is no memory exactly where the fault was that there is none.
-    ensures memory { IfErr given (λ fault. IsTrue (is_err result) ↔ (error_kind fault ≡ kind.OutOfMemory)) }
+    ensures memory { IfErr given
+        (λ fault. IsTrue (is_err result) ↔ (error_kind fault ≡ kind.OutOfMemory)) }
 {
     match given {
         Ok(words) => behind_first(alloc, words),

@@ -21,8 +21,11 @@ pub(crate) fn finish<K: Sink>(
     out: &mut K,
 ) -> Result<Finished, RunFault>
     requires { IsSound script.old }
-    ensures ok { IfOk result (TellsAll (run_told (told_by last_line script.old [])) (K.written out.old) (K.written out.new)) }
-    ensures err { IfErr result (EndStops (told_by last_line script.old []) (K.written out.old) (K.written out.new)) }
+    ensures ok { IfOk result
+        (TellsAll (run_told (told_by last_line script.old [])) (K.written out.old)
+        (K.written out.new)) }
+    ensures err { IfErr result
+        (EndStops (told_by last_line script.old []) (K.written out.old) (K.written out.new)) }
     ensures cause { HasWriteCause (K.faults out.old) (K.faults out.new) result }
 {
     if script.pending.is_empty() {
@@ -37,8 +40,10 @@ pub(crate) fn finish<K: Sink>(
 // Ends the run behind the last line.
 fn end_at_place<K: Sink>(alloc: Global, place: &Place, out: &mut K) -> Result<Finished, RunFault>
     requires { Stands place.now }
-    ensures ok { IfOk result (TellsAll (run_told (told_at place.now)) (K.written out.old) (K.written out.new)) }
-    ensures err { IfErr result (EndStops (told_at place.now) (K.written out.old) (K.written out.new)) }
+    ensures ok { IfOk result
+        (TellsAll (run_told (told_at place.now)) (K.written out.old) (K.written out.new)) }
+    ensures err { IfErr result
+        (EndStops (told_at place.now) (K.written out.old) (K.written out.new)) }
     ensures cause { HasWriteCause (K.faults out.old) (K.faults out.new) result }
 {
     match &place.state {
@@ -58,8 +63,12 @@ fn print_end<K: Sink>(
     out: &mut K,
 ) -> Result<Finished, RunFault>
     requires { IsCounted steps opened.now }
-    ensures ok { IfOk result (TellsAll (run_ended steps opened.now.cluster.model) (K.written out.old) (K.written out.new)) }
-    ensures err { IfErr result (PrintStops (K.written out.old) (K.written out.new) (run_ended steps opened.now.cluster.model).text) }
+    ensures ok { IfOk result
+        (TellsAll (run_ended steps opened.now.cluster.model) (K.written out.old)
+        (K.written out.new)) }
+    ensures err { IfErr result
+        (PrintStops (K.written out.old) (K.written out.new)
+        (run_ended steps opened.now.cluster.model).text) }
     ensures cause { HasWriteCause (K.faults out.old) (K.faults out.new) result }
 {
     match end_lines(alloc, opened) {

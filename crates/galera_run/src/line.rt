@@ -55,7 +55,8 @@ pub(crate) fn take_line(
 #[tactic(auto, using(crate::proofs::LineLaws::header_of_line))]
 fn open(alloc: Global, place: &mut Place, line: &[u8]) -> Result<Option<Answer>, LineFault>
     requires { IsRoomFor place.old line.now None }
-    ensures ok { IfOk result (λ answer. opened_at place.old line.now (first_of line.now) ≡ Ok (answer, place.new)) }
+    ensures ok { IfOk result
+        (λ answer. opened_at place.old line.now (first_of line.now) ≡ Ok (answer, place.new)) }
     ensures stands { OnOk result (Stands place.new) }
     ensures err { IfErr result (FailsAs (opened_at place.old line.now (first_of line.now))) }
 {
@@ -96,7 +97,8 @@ fn run_said(place: &mut Place, opened: Opened, line: &[u8]) -> Result<Option<Ans
     ensures ok { IfOk result (λ answer.
         stepped_at place.old line.now opened (line_of opened.nodes line.now) ≡ Ok (answer, place.new)) }
     ensures stands { OnOk result (Stands place.new) }
-    ensures err { IfErr result (FailsAs (stepped_at place.old line.now opened (line_of opened.nodes line.now))) }
+    ensures err { IfErr result
+        (FailsAs (stepped_at place.old line.now opened (line_of opened.nodes line.now))) }
 {
     match parse_line(line, opened.nodes) {
         Ok(Line::Step(step)) => run_step(place, opened, line, &step),
@@ -122,7 +124,8 @@ fn run_step(
     ensures ok { IfOk result (λ answer.
         stepped_at place.old line.now opened (Ok (Line.Step step.now)) ≡ Ok (answer, place.new)) }
     ensures stands { OnOk result (Stands place.new) }
-    ensures err { IfErr result (FailsAs (stepped_at place.old line.now opened (Ok (Line.Step step.now)))) }
+    ensures err { IfErr result
+        (FailsAs (stepped_at place.old line.now opened (Ok (Line.Step step.now)))) }
 {
     let steps = place.steps;
     if steps >= MOST_STEPS || passes_events(&opened.cluster, step) {
@@ -143,7 +146,9 @@ fn run_step(
 fn passes_events(cluster: &Cluster<MemGroup>, step: &Step) -> bool
     requires node { (1 ≤ step.now.node) × (step.now.node ≤ length cluster.now.model.nodes) }
     requires events { length cluster.now.model.order ≤ most_events }
-    ensures { result ≡ nat_lt most_events (length cluster.now.model.order + will_order cluster.now.model step.now) }
+    ensures { result
+        ≡ nat_lt most_events
+        (length cluster.now.model.order + will_order cluster.now.model step.now) }
 {
     cluster.will_order(step) > MOST_EVENTS - cluster.events()
 }

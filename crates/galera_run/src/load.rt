@@ -34,7 +34,8 @@ pub fn run_load<K: Sink>(
 ) -> Result<Finished, RunFault>
     requires { (1 ≤ count) × (count ≤ 30_000) }
     ensures ok { IfOk result (TellsLoad seed count (K.written out.old) (K.written out.new)) }
-    ensures err { IfErr result (PrintStops (K.written out.old) (K.written out.new) (load_summary seed count)) }
+    ensures err { IfErr result
+        (PrintStops (K.written out.old) (K.written out.new) (load_summary seed count)) }
     ensures cause { HasWriteCause (K.faults out.old) (K.faults out.new) result }
 {
     match summary(alloc, seed, count) {

@@ -19,8 +19,10 @@ pub(crate) fn print_answer<K: Sink>(
     answer: &Answer,
     out: &mut K,
 ) -> Result<(), RunFault>
-    ensures ok { OnOk result (Appends (K.written out.old) (K.written out.new) (line_text number answer.now)) }
-    ensures err { IfErr result (PrintStops (K.written out.old) (K.written out.new) (line_text number answer.now)) }
+    ensures ok { OnOk result
+        (Appends (K.written out.old) (K.written out.new) (line_text number answer.now)) }
+    ensures err { IfErr result
+        (PrintStops (K.written out.old) (K.written out.new) (line_text number answer.now)) }
     ensures cause { HasWriteCause (K.faults out.old) (K.faults out.new) result }
 {
     match answer_line(alloc, number, answer) {

@@ -72,7 +72,8 @@ fn do_load<K: Sink>(alloc: Global, asked: Asked, out: &mut K) -> u8
     requires { HasCount (Some asked) }
     ensures cause { EndsAs 0 result (K.faults out.old) (K.faults out.new)
         ⊎ ((result ≡ 6) × (K.faults out.new ≡ K.faults out.old)) }
-    ensures finished { result ≡ 0 → TellsAsked (Some asked) (K.written out.old) (K.written out.new) }
+    ensures finished { result ≡ 0
+        → TellsAsked (Some asked) (K.written out.old) (K.written out.new) }
     ensures cut { result ≡ 4 → CutsAsked (Some asked) (K.written out.old) (K.written out.new) }
     ensures memory { result ≡ 6 → Keeps (K.written out.old) (K.written out.new) }
 {

@@ -24,7 +24,8 @@ pub fn run_steps<S: Source, K: Sink>(
 ) -> Result<Finished, RunFault>
     ensures ok { IfOk result (RunTells (S.left input.old) (K.written out.old) (K.written out.new)) }
     ensures end { OnOk result (IsAtEnd (S.left input.new)) }
-    ensures err { IfErr result (RunStops (S.left input.old) (S.left input.new) (K.written out.old) (K.written out.new)) }
+    ensures err { IfErr result
+        (RunStops (S.left input.old) (S.left input.new) (K.written out.old) (K.written out.new)) }
     ensures read { HasReadCause (S.faults input.old) (S.faults input.new) result }
     ensures write { HasWriteCause (K.faults out.old) (K.faults out.new) result }
 {
@@ -51,10 +52,14 @@ fn read_all<S: Source, K: Sink>(
     out: &mut K,
 ) -> Result<(), RunFault>
     requires { IsSound script.old }
-    ensures ok { OnOk result (Reads (S.left input.old) (S.left input.new) script.old script.new (K.written out.old) (K.written out.new)) }
+    ensures ok { OnOk result
+        (Reads (S.left input.old) (S.left input.new) script.old script.new (K.written out.old)
+        (K.written out.new)) }
     ensures end { OnOk result (IsAtEnd (S.left input.new)) }
     ensures sound { OnOk result (IsSound script.new) }
-    ensures err { IfErr result (ReadStops (S.left input.old) (S.left input.new) script.old (K.written out.old) (K.written out.new)) }
+    ensures err { IfErr result
+        (ReadStops (S.left input.old) (S.left input.new) script.old (K.written out.old)
+        (K.written out.new)) }
     ensures read { HasReadCause (S.faults input.old) (S.faults input.new) result }
     ensures write { HasWriteCause (K.faults out.old) (K.faults out.new) result }
 {
@@ -75,11 +80,16 @@ fn read_piece<S: Source, K: Sink>(
     out: &mut K,
 ) -> Result<bool, RunFault>
     requires { IsSound script.old }
-    ensures ok { OnOk result (Reads (S.left input.old) (S.left input.new) script.old script.new (K.written out.old) (K.written out.new)) }
+    ensures ok { OnOk result
+        (Reads (S.left input.old) (S.left input.new) script.old script.new (K.written out.old)
+        (K.written out.new)) }
     ensures sound { OnOk result (IsSound script.new) }
-    ensures more { IfOk result (λ more. (more ≡ true → read_count script.old < read_count script.new)
+    ensures more { IfOk result
+        (λ more. (more ≡ true → read_count script.old < read_count script.new)
         × (more ≡ false → IsAtEnd (S.left input.new))) }
-    ensures err { IfErr result (ReadStops (S.left input.old) (S.left input.new) script.old (K.written out.old) (K.written out.new)) }
+    ensures err { IfErr result
+        (ReadStops (S.left input.old) (S.left input.new) script.old (K.written out.old)
+        (K.written out.new)) }
     ensures read { HasReadCause (S.faults input.old) (S.faults input.new) result }
     ensures write { HasWriteCause (K.faults out.old) (K.faults out.new) result }
 {

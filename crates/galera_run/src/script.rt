@@ -25,10 +25,12 @@ pub(crate) fn feed<K: Sink>(
     out: &mut K,
 ) -> Result<(), RunFault>
     requires { IsSound script.old }
-    ensures ok { OnOk result (Feeds script.old script.new piece.now (K.written out.old) (K.written out.new)) }
+    ensures ok { OnOk result
+        (Feeds script.old script.new piece.now (K.written out.old) (K.written out.new)) }
     ensures sound { OnOk result (IsSound script.new) }
     ensures count { OnOk result (read_count script.new ≡ read_count script.old + length piece.now) }
-    ensures err { IfErr result (Stops script.old piece.now (K.written out.old) (K.written out.new)) }
+    ensures err { IfErr result
+        (Stops script.old piece.now (K.written out.old) (K.written out.new)) }
     ensures cause { HasWriteCause (K.faults out.old) (K.faults out.new) result }
 {
     'bytes: for byte in piece {
@@ -46,10 +48,12 @@ fn take_byte<K: Sink>(
     out: &mut K,
 ) -> Result<(), RunFault>
     requires { IsSound script.old }
-    ensures ok { OnOk result (Feeds script.old script.new (byte ∷ []) (K.written out.old) (K.written out.new)) }
+    ensures ok { OnOk result
+        (Feeds script.old script.new (byte ∷ []) (K.written out.old) (K.written out.new)) }
     ensures sound { OnOk result (IsSound script.new) }
     ensures count { OnOk result (read_count script.new ≡ read_count script.old + 1) }
-    ensures err { IfErr result (Stops script.old (byte ∷ []) (K.written out.old) (K.written out.new)) }
+    ensures err { IfErr result
+        (Stops script.old (byte ∷ []) (K.written out.old) (K.written out.new)) }
     ensures cause { HasWriteCause (K.faults out.old) (K.faults out.new) result }
 {
     if script.place.before + script.pending.len() >= MOST_BYTES {
@@ -72,10 +76,13 @@ pub(crate) fn run_pending<K: Sink>(
 ) -> Result<(), RunFault>
     requires stands { Stands script.old.place }
     requires some { 0 < length script.old.pending }
-    ensures ok { OnOk result (Runs script.old.place script.new.place script.old.pending (K.written out.old) (K.written out.new)) }
+    ensures ok { OnOk result
+        (Runs script.old.place script.new.place script.old.pending (K.written out.old)
+        (K.written out.new)) }
     ensures none { OnOk result (script.new.pending ≡ []) }
     ensures stands { OnOk result (Stands script.new.place) }
-    ensures err { IfErr result (LineStops script.old.place script.old.pending (K.written out.old) (K.written out.new)) }
+    ensures err { IfErr result
+        (LineStops script.old.place script.old.pending (K.written out.old) (K.written out.new)) }
     ensures cause { HasWriteCause (K.faults out.old) (K.faults out.new) result }
 {
     match run_line(alloc, &mut script.place, script.pending.as_slice(), out) {
@@ -95,9 +102,11 @@ fn run_line<K: Sink>(
 ) -> Result<(), RunFault>
     requires stands { Stands place.old }
     requires some { 0 < length line.now }
-    ensures ok { OnOk result (Runs place.old place.new line.now (K.written out.old) (K.written out.new)) }
+    ensures ok { OnOk result
+        (Runs place.old place.new line.now (K.written out.old) (K.written out.new)) }
     ensures stands { OnOk result (Stands place.new) }
-    ensures err { IfErr result (LineStops place.old line.now (K.written out.old) (K.written out.new)) }
+    ensures err { IfErr result
+        (LineStops place.old line.now (K.written out.old) (K.written out.new)) }
     ensures cause { HasWriteCause (K.faults out.old) (K.faults out.new) result }
 {
     let number = place.number;
