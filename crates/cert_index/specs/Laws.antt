@@ -28,7 +28,8 @@ HoldsPurged = (kept : List Entry) (to higher : ℕ) (commits : List CommitItem)
 abbrev pub FindsConflict : Type 0
 FindsConflict = (kept : List Entry) (to last_seen : ℕ) (commits : List CommitItem) (keys : Keys)
     → Holds kept to commits → to ≤ last_seen
-    → latest_conflict kept last_seen keys.entries ≡ greatest_related conflicts commits last_seen keys
+    → latest_conflict kept last_seen keys.entries
+    ≡ greatest_related conflicts commits last_seen keys
 
 -- what touches is found among the commits that it holds
 abbrev pub FindsTouch : Type 0

@@ -1,5 +1,5 @@
-//! What an index finds, told over the commits that were entered, as the contract of a call that does
-//! nothing.
+//! What an index finds, told over the commits that were entered, as the contract of a call that
+//! does nothing.
 ghost use Rattle.cert_index.specs.Laws.{FindsConflict, FindsTouch, HoldsEntered, HoldsNone, HoldsPurged};
 
 /// An index holds the commits that were entered and not purged. What conflicts since a last seen
