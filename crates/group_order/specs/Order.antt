@@ -1,5 +1,7 @@
--- the order of events: how it starts, its n-th event, and what a message becomes in it
-use Rattle.std.specs.Prelude.{ℕ, zero, suc, List, [], ◌∷◌, ◌++◌, slice_get, Option, None}
+-- the order of events: how it starts, its n-th event, what a message becomes in it, and the view
+-- that a member leaves behind
+use Rattle.std.specs.Prelude.{ℕ, zero, suc, ◌==◌, not, List, [], ◌∷◌, ◌++◌, fold, slice_get, Option, None}
+use Rattle.std.specs.List.{filter}
 use Rattle.order_event.specs.declared.event.Event.{Event}
 use Rattle.order_event.specs.declared.event.Event.TheVariants.{Write, View, Report}
 use Rattle.order_event.specs.declared.event.Message.{Message}
@@ -23,3 +25,21 @@ event_at order (suc n) = slice_get order n
 abbrev pub event_of : ℕ → Message → Event
 event_of member (message.Write body) = Write member body
 event_of member (message.Report number) = Report member number
+
+-- ---- views
+abbrev pub newer_view : ℕ × List ℕ → Event → ℕ × List ℕ
+newer_view last (Write member body) = last
+newer_view last (View version members) = (version, members)
+newer_view last (Report member number) = last
+
+-- the version and the members of the last view; version 0 and none where there is no view
+abbrev pub last_view : List Event → ℕ × List ℕ
+last_view order = fold newer_view (0, []) order
+
+-- all of some members but one
+abbrev pub all_but : ℕ → List ℕ → List ℕ
+all_but member members = filter (λ other. not (other == member)) members
+
+-- the last view without a member
+abbrev pub view_without : List Event → ℕ → Event
+view_without order member = View (last_view order).0 (all_but member (last_view order).1)

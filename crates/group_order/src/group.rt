@@ -1,6 +1,6 @@
 ghost use Rattle.std.specs.Prelude.{◌≡◌, ℕ, ◌<◌, List, [], ◌∷◌, ◌++◌, length, IsSome, IfOk, IfErr, OnOk, OnErr};
 ghost use Rattle.order_event.specs.declared.event.Event.{Event};
-ghost use Rattle.group_order.specs.Order.{event_at, event_of};
+ghost use Rattle.group_order.specs.Order.{event_at, event_of, view_without};
 ghost use Rattle.group_order.specs.Causes.{HasCause, AtNoMemory};
 
 use crate::GroupFault;
@@ -30,6 +30,16 @@ pub trait Group: Drop {
     fn order(&mut self, member: u32, message: &Message) -> Result<u64, GroupFault>
         requires { length (order self.old) < 500_000 }
         ensures ok { OnOk result (order self.new ≡ order self.old ++ event_of member message.now ∷ []) }
+        ensures number { IfOk result (λ number. number ≡ length (order self.new)) }
+        ensures err { OnErr result (order self.new ≡ order self.old) }
+        ensures cause { HasCause (faults self.old) (faults self.new) result };
+
+    /// Appends the last view without the member, and gives its number. After a fault the order is
+    /// the same.
+    fn leave(&mut self, member: u32) -> Result<u64, GroupFault>
+        requires { length (order self.old) < 500_000 }
+        ensures ok { OnOk result
+            (order self.new ≡ order self.old ++ view_without (order self.old) member ∷ []) }
         ensures number { IfOk result (λ number. number ≡ length (order self.new)) }
         ensures err { OnErr result (order self.new ≡ order self.old) }
         ensures cause { HasCause (faults self.old) (faults self.new) result };

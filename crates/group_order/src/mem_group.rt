@@ -1,5 +1,5 @@
 ghost use Rattle.std.specs.Prelude.{◌≡◌, ◌≤◌, IfOk};
-ghost use Rattle.group_order.specs.Order.{event_of, up_to};
+ghost use Rattle.group_order.specs.Order.{all_but, event_of, up_to};
 
 use crate::{Group, GroupFault};
 use order_event::{Event, EventList, MemberList, Message};
@@ -11,6 +11,9 @@ use wsrep_base::NoMemory;
 #[derive(Drop)]
 pub struct MemGroup {
     events: EventList,
+    /// The version and the members of the last view.
+    version: u32,
+    members: MemberList,
 }
 
 impl Model for MemGroup {
@@ -20,6 +23,11 @@ impl Model for MemGroup {
     ghost Value = { List Event };
 
     ghost view = { λ group. group.events };
+
+    ghost use Rattle.std.specs.Prelude.{◌≡◌};
+    ghost use Rattle.group_order.specs.Order.{last_view};
+
+    ghost invariant = { λ group. last_view group.events ≡ (group.version, group.members) };
 }
 
 impl MemGroup {
@@ -38,7 +46,11 @@ impl MemGroup {
             version: 1,
             members: members_to(alloc, members)?,
         })?;
-        Ok(MemGroup { events })
+        Ok(MemGroup {
+            events,
+            version: 1,
+            members: members_to(alloc, members)?,
+        })
     }
 }
 
@@ -63,6 +75,27 @@ impl Group for MemGroup {
         self.events.push(event_of(member, message)?)?;
         Ok(self.events.len() as u64)
     }
+
+    fn leave(&mut self, member: u32) -> Result<u64, GroupFault> {
+        let members = all_but(member, &self.members)?;
+        self.events.push(Event::View {
+            version: self.version,
+            members: members.copy()?,
+        })?;
+        self.members = members;
+        Ok(self.events.len() as u64)
+    }
+}
+
+// The members but one.
+fn all_but(member: u32, members: &MemberList) -> Result<MemberList, NoMemory>
+    ensures { IfOk result (λ others. others ≡ all_but member members.now) }
+{
+    let others = members.as_slice().iter().copied();
+    let others: Vec<u32> = others
+        .filter(|other| *other != member)
+        .collect(members.alloc())?;
+    Ok(MemberList::from(others))
 }
 
 // The numbers from 1 to `last`.

@@ -1,5 +1,5 @@
 -- a cluster of model nodes over one order, and its runs
-use Rattle.std.specs.Prelude.{ℕ, suc, zero, ◌+◌, ◌-◌, List, [], ◌∷◌, ◌++◌, length, map, slice_get, Option, Some, None}
+use Rattle.std.specs.Prelude.{ℕ, suc, zero, ◌+◌, ◌-◌, List, [], ◌∷◌, ◌++◌, length, map, slice_get, Option, Some, None, if◌then◌else◌}
 use Rattle.order_event.specs.declared.event.Event.{Event}
 use Rattle.order_event.specs.declared.event.Message.{Message}
 use Rattle.order_event.specs.declared.step.Act.{Act}
@@ -7,8 +7,9 @@ use Rattle.order_event.specs.declared.step.Act.TheVariants as act
 use Rattle.order_event.specs.declared.step.Answer.{Answer}
 use Rattle.order_event.specs.declared.step.Answer.TheVariants as answer
 use Rattle.order_event.specs.declared.step.Step.{Step}
-use Rattle.group_order.specs.Order.{event_of, start_order, up_to}
-use Rattle.node_meaning.specs.Node.{ModelNode, start_node}
+use Rattle.group_order.specs.Order.{event_of, start_order, up_to, view_without}
+use Rattle.node_meaning.specs.Node.{ModelNode, is_left, start_node}
+use Rattle.node_meaning.specs.Leaving.{left_node}
 use Rattle.node_meaning.specs.Steps.{sent_out, node_step, drained}
 
 pub record ModelCluster : Type 0 where
@@ -46,6 +47,19 @@ drain_all c i n order =
 abbrev pub drain : ModelCluster → ℕ → ModelNode → Answer × ModelCluster
 drain c i n = drain_all c i n (c.order ++ map (event_of n.at.member) n.outbox)
 
+-- a view without the node's member is ordered, and the node has left
+abbrev pub leave_now : ModelCluster → ℕ → ModelNode → Answer × ModelCluster
+leave_now c i n = (
+  answer.Left (length c.order + 1),
+  record {
+    order = c.order ++ view_without c.order n.at.member ∷ [];
+    nodes = set_at c.nodes i (left_node n);
+  },
+)
+
+abbrev pub leave : ModelCluster → ℕ → ModelNode → Answer × ModelCluster
+leave c i n = if is_left n.at.phase then (answer.Disconnected, c) else leave_now c i n
+
 -- one step of the node at place i
 abbrev pub step_of : ModelCluster → ℕ → ModelNode → Act → Answer × ModelCluster
 step_of c i n (act.Client session call) =
@@ -58,8 +72,8 @@ step_of c i n (act.Finish number) = with_node c i (node_step c.order n (act.Fini
 step_of c i n act.Advance = with_node c i (node_step c.order n act.Advance)
 step_of c i n act.Drain = drain c i n
 step_of c i n act.Report = with_node c i (node_step c.order n act.Report)
-step_of c i n act.Status = (answer.Nothing, c)
-step_of c i n act.Leave = (answer.Nothing, c)
+step_of c i n act.Status = with_node c i (node_step c.order n act.Status)
+step_of c i n act.Leave = leave c i n
 step_of c i n (act.Join fresh) = (answer.Nothing, c)
 step_of c i n (act.Transfer donor) = (answer.Nothing, c)
 
@@ -89,7 +103,7 @@ node_orders (act.Finish number) n = 0
 node_orders act.Advance n = 0
 node_orders act.Report n = 0
 node_orders act.Status n = 0
-node_orders act.Leave n = 0
+node_orders act.Leave n = if is_left n.at.phase then 0 else 1
 node_orders (act.Join fresh) n = 0
 node_orders (act.Transfer donor) n = 0
 

@@ -32,6 +32,7 @@ use Rattle.node_meaning.specs.declared.progress.Stage.{Stage}
 use Rattle.node_meaning.specs.declared.progress.Stage.TheVariants.{Started, Finished}
 use Rattle.node_meaning.specs.Node.{ModelNode, ApplyUnit, is_left, is_joining, is_connected, ahead, passed_at, locks_of, set_live, end_with, taken_back}
 use Rattle.node_meaning.specs.Client.{client}
+use Rattle.node_meaning.specs.Status.{status_step}
 
 -- ---- sending
 -- the oldest message of the outbox counts as ordered
@@ -280,7 +281,7 @@ node_step order n (act.Finish number) = finish_step n number
 node_step order n act.Advance = advance_step order n
 node_step order n act.Order = (answer.Nothing, n)
 node_step order n act.Report = report_step n
-node_step order n act.Status = (answer.Nothing, n)
+node_step order n act.Status = status_step order n
 node_step order n act.Drain = (answer.Nothing, n)
 node_step order n act.Leave = (answer.Nothing, n)
 node_step order n (act.Join fresh) = (answer.Nothing, n)

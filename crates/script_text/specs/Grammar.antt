@@ -66,7 +66,9 @@ verb_of (verb ∷ words) =
     else if verb is "finish" then option_map act.Finish (only_number words)
     else if verb is "advance" then alone act.Advance words
     else if verb is "report" then alone act.Report words
+    else if verb is "status" then alone act.Status words
     else if verb is "drain" then alone act.Drain words
+    else if verb is "leave" then alone act.Leave words
     else None
 
 -- who acts: a node, `N`, or one of its sessions, `N.S`

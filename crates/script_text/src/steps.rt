@@ -117,8 +117,12 @@ fn verb(words: &mut Words) -> Option<Act>
         alone(Act::Advance, words)
     } else if is(verb, b"report") {
         alone(Act::Report, words)
+    } else if is(verb, b"status") {
+        alone(Act::Status, words)
     } else if is(verb, b"drain") {
         alone(Act::Drain, words)
+    } else if is(verb, b"leave") {
+        alone(Act::Leave, words)
     } else {
         None
     }
