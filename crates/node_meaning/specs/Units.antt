@@ -3,12 +3,14 @@ use Rattle.std.specs.Prelude.{ℕ, zero, suc, List, [], ◌∷◌, ◌++◌, map
 use Rattle.std.specs.List.{list_any}
 use Rattle.std.specs.Ordering.{eq_by_cmp}
 use Rattle.finite_map.specs.FiniteMap.{get}
+use Rattle.wsrep_base.specs.declared.verdict.Judged.{Judged}
+use Rattle.wsrep_base.specs.declared.verdict.Judged.TheVariants as became
 use Rattle.row_model.specs.declared.row.RowId.{RowId}
 use Rattle.row_model.specs.declared.ops.Op.{Op}
 use Rattle.row_model.specs.Rows.{Rows, row_cmp, id_of}
 use Rattle.order_event.specs.declared.event.Event.{Event}
 use Rattle.cert_meaning.specs.State.{FoldState}
-use Rattle.cert_meaning.specs.Fold.{state_at, committed_ops}
+use Rattle.cert_meaning.specs.Fold.{state_at, committed_ops, judged}
 use Rattle.apply_unit.specs.Results.{Image}
 use Rattle.apply_unit.specs.Task.{ModelTask, task}
 use Rattle.node_meaning.specs.Node.{rows_at}
@@ -37,6 +39,15 @@ ops_at order (suc number) = ops_by (state_at order number) (slice_get order numb
 abbrev pub rows_before : List Event → ℕ → Rows
 rows_before order zero = rows_at order 0
 rows_before order (suc number) = rows_at order number
+
+-- what became of the event with a number; of one that is not there nothing is said
+abbrev pub judged_by : FoldState → Option Event → Judged
+judged_by s None = became.View
+judged_by s (Some e) = judged s e
+
+abbrev pub judged_at : List Event → ℕ → Judged
+judged_at order zero = became.View
+judged_at order (suc number) = judged_by (state_at order number) (slice_get order number)
 
 -- the task of the unit with a number: the changes of its commit, and the images that the rows
 -- before it give
