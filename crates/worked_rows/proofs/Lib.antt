@@ -1,3 +1,4 @@
 mod Commits
 mod Units
 mod Streaming
+mod Leaving

@@ -2,3 +2,4 @@ pub mod Words
 pub mod Commits
 pub mod Units
 pub mod Streaming
+pub mod Leaving

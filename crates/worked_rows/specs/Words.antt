@@ -12,7 +12,9 @@ use Rattle.write_set.specs.Spelling.{spelling}
 use Rattle.wsrep_base.specs.Reading.{bytes_at, number_at}
 use Rattle.write_set.specs.Reading.{many_at, name_at, key_row_at, key_at, some_keys_at, keys_at, place_at, count_at, values_at, columns_at, some_columns_at, op_at, ops_at, header_at, finished, read}
 use Rattle.node_meaning.specs.Client.{client}
-use Rattle.node_meaning.specs.Steps.{take_step, certify_step, start_step, finish_step, advance_step, drained}
+use Rattle.node_meaning.specs.Leaving.{sessions_left, left_node}
+use Rattle.node_meaning.specs.Status.{index_count, status_step}
+use Rattle.node_meaning.specs.Steps.{take_step, certify_step, start_step, finish_step, advance_step, report_step, drained}
 use Rattle.node_meaning.specs.Cluster.{start_cluster, cluster_step, run}
 
 -- what a worked schedule unfolds
@@ -20,7 +22,8 @@ unfoldable pub computing_runs : Unit {0}
 unfolding computing_folds is_name spelling bytes_at number_at many_at name_at key_row_at key_at
     some_keys_at keys_at place_at count_at values_at columns_at some_columns_at op_at ops_at
     header_at finished read client take_step certify_step start_step finish_step advance_step
-    drained start_cluster cluster_step run
+    report_step status_step index_count sessions_left left_node drained start_cluster cluster_step
+    run
 computing_runs = tt
 
 abbrev pub state_id : List ℕ
