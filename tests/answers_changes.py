@@ -135,6 +135,32 @@ def rolled_back_as_other(run, node, session, call, answer):
         yield "COMMITTED 0"
 
 
+# What a node that leaves tells.
+
+
+def left_as_other(run, node, session, call, answer):
+    """A session of a node that left is told another end of its transaction."""
+    trx, waiting = node.waiting.get(session, (None, None))
+    if waiting in ("UNKNOWN", "DISCONNECTED"):
+        yield from ("UNKNOWN", "DISCONNECTED", "ROLLED BACK", "COMMITTED 0", "NO TRX")
+        yield from (f"COMMITTED {it.number}" for it in trx.events)
+
+
+def taken_is_unknown(run, node, session, call, answer):
+    """UNKNOWN is told of a commit that the node had taken."""
+    trx = node.live.get(session)
+    if node.left and trx and session not in node.waiting:
+        yield from ("UNKNOWN", "DISCONNECTED")
+
+
+def status_turned(run, node, session, call, answer):
+    """A status has another floor, or counts other entries or open transactions."""
+    words = answer.split()
+    if words[0] == "STATUS":
+        for at in (4, 5, 6):
+            yield " ".join([*words[:at], str(int(words[at]) + 1), *words[at + 1 :]])
+
+
 # Rows that a read shows.
 
 
@@ -204,7 +230,8 @@ def spared(run, node, session, call, answer):
 OF_A_LINE = [
     of_another_number, of_nothing, lost, commit_as_deadlock, twice, before_its_commit,
     names_a_failed_one, names_one_behind, names_one_apart, names_its_own, deadlock_as_other,
-    rolled_back_as_other, fragment_shown, open_change_shown, ended_change_shown,
+    rolled_back_as_other, left_as_other, taken_is_unknown, status_turned, fragment_shown,
+    open_change_shown, ended_change_shown,
     commit_shown_early, own_change_hidden, verdict_turned, spared,
 ]  # fmt: skip
 

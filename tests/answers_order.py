@@ -138,15 +138,26 @@ class Fold:
     def __init__(self, members):
         self.order, self.floor, self.commits, self.open = [], 0, [], {}
         self.reports, self.serials = {}, {}
+        # By number: the floor and the count of open transactions after so many events.
+        self.floors, self.opens = [0], [0]
         self.view(members)
 
     def view(self, members):
-        """The members from here on. Once nodes leave, what is open of absent ones goes, too."""
+        """The members from here on. What is open of absent ones goes."""
         event = Event("VIEW")
         self.enter(event)
         self.reports = {it: self.reports.get(it, event.number) for it in members}
         self.serials = {it: self.serials.get(it, 0) for it in members}
+        self.open = {trx: it for trx, it in self.open.items() if trx.node.number in self.reports}
+        self.settle()
+
+    def leave(self, member):
+        self.view([it for it in self.reports if it != member])
+
+    def settle(self):
         self.floor = min(self.reports.values(), default=self.floor)
+        self.floors.append(self.floor)
+        self.opens.append(len(self.open))
 
     def enter(self, event):
         self.order.append(event)
@@ -164,7 +175,7 @@ class Fold:
             if event.verdict not in (("FAIL", "STRANGER"), ("FAIL", "REPEAT")):
                 self.serials[event.member] = event.serial
                 self.follow(event)
-        self.floor = min(self.reports.values(), default=self.floor)
+        self.settle()
 
     def verdict(self, event):
         if event.member not in self.serials:

@@ -13,13 +13,14 @@ ROWS = [(table, row) for table in ("acct", "log") for row in ("a", "b", "c")]
 class Random:
     """Draws steps for a run. A node drawn seldom lags behind; sessions stream by chance."""
 
-    def __init__(self, seed, reports):
-        self.draw, self.reports = random.Random(seed), reports
+    def __init__(self, seed):
+        self.draw = random.Random(seed)
         self.nodes = self.draw.choice([2, 2, 3, 3, 4])
         self.weights = [self.draw.choice([1, 2, 4]) for _ in range(self.nodes)]
         self.rows = ROWS[: self.draw.choice([2, 4, 6])]
         self.streams = self.draw.choice([0.1, 0.4, 0.8])
         self.drains = self.draw.choice([0.02, 0.1, 0.3])
+        self.leaves = self.draw.choice([0, 0, 0.05, 0.3])
         self.run, self.value, self.opening = Run(self.nodes), 0, []
         if self.draw.random() < 0.7:
             self.opening = self.first_rows()
@@ -46,7 +47,7 @@ class Random:
         trx = node.live.get(session)
         at = self.draw.choice(self.rows)
         read = f"read {at[0]} {at[1]}"
-        if session in node.waiting or trx and trx.status != RUNNING:
+        if session in node.waiting or node.left or trx and trx.status != RUNNING:
             return self.chance({"poll": 6, read: 1, "begin": 1})
         if not trx:
             stream = self.draw.random() < self.streams
@@ -80,21 +81,23 @@ class Random:
             return "drain"
         found = {"order": 3 if node.outbox else 0.05}
         found["advance"] = 2 if node.committed < node.certified else 0.05
-        found["take"] = 4 if node.taken < len(self.run.fold.order) else 0.05
+        more = not node.left and node.taken < len(self.run.fold.order)
+        found["take"] = 4 if more else 0.05
         found["certify"] = 4 if node.certified < node.taken else 0.05
         for n in range(node.committed + 1, node.certified + 1):
             if n in node.units:
                 found[f"finish {n}"] = 3
             elif self.run.event(n).is_commit():
                 found[f"start {n}"] = 3
-        if self.reports:
-            found["report"] = 0.5
+        found["report"] = 0.5
+        found["status"] = 0.3
+        found["leave"] = 0.01 if node.left else self.leaves
         return self.chance(found)
 
 
-def random_run(seed, program, reports):
+def random_run(seed, program):
     """A schedule of this seed, and the text that the program prints for it."""
-    steps = Random(seed, reports)
+    steps = Random(seed)
     lines, text = [HEADER.format(steps.nodes)], []
     pipes = {"stdin": subprocess.PIPE, "stdout": subprocess.PIPE}
     with subprocess.Popen([program, "steps"], text=True, **pipes) as ran:
@@ -115,8 +118,8 @@ def random_run(seed, program, reports):
     return "\n".join(lines) + "\n", "".join(text)
 
 
-def generated(seed, rounds, reports):
-    """The generated schedule of this seed, as docs/RULES.md has it; or that without its reports."""
+def generated(seed, rounds):
+    """The generated schedule of this seed, as docs/RULES.md has it."""
 
     def draw(below):
         nonlocal seed
@@ -134,6 +137,6 @@ def generated(seed, rounds, reports):
         lines += [f"{session} poll", f"{session} {begin}"]
         lines += [f"{session} update acct r{row} 1={value}" for row in rows]
         lines += [f"{session} commit", f"{1 + draw(3)} drain"]
-        if value % 16 == 0 and reports:
+        if value % 16 == 0:
             lines += ["1 report", "2 report", "3 report"]
     return "\n".join([*lines, *drains, *drains]) + "\n"

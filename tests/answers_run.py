@@ -10,7 +10,7 @@ import re
 from answers_order import (
     CERTIFIED, COMMIT_SENT, ENDED, EXCLUSIVE, FRAGMENT_SENT, HAS_LOCKS, KILLED_SENT, PASS,
     REPLAYING, RUNNING, SHARED, UPDATE, Event, Fold, Transaction, Wrong, deleted, demand, inserted,
-    meet, touch, updated,
+    kinds_at, meet, touch, updated,
 )  # fmt: skip
 
 
@@ -21,7 +21,7 @@ class Node:
         self.number, self.taken, self.certified, self.committed = number, 0, 0, 0
         self.serial = self.begin = 1
         self.outbox, self.units, self.rows = [], {}, {}
-        self.live, self.waiting = {}, {}
+        self.live, self.waiting, self.left = {}, {}, False
 
     def seen(self, session, at):
         """The row that a session sees: its own open changes done on the committed row."""
@@ -69,6 +69,18 @@ class Node:
         elif event.verdict[1].startswith(("CONFLICT", "HELD")):
             self.end(trx, "DEADLOCK CERT")
 
+    def leave(self):
+        """Its sessions are told what became of their transactions; what it did not take is lost."""
+        for _, trx in sorted(self.live.items()):
+            if trx.status in (RUNNING, FRAGMENT_SENT):
+                self.end(trx, "DISCONNECTED")
+            elif trx.status in (COMMIT_SENT, KILLED_SENT) and not self.has_taken_commit(trx):
+                self.end(trx, "UNKNOWN")
+        self.outbox, self.left = [], True
+
+    def has_taken_commit(self, trx):
+        return any(it.form == "COMMIT" and it.number <= self.taken for it in trx.events)
+
     def kill(self, keys):
         """The sessions whose locks touch these keys, ascending; each is aborted."""
         found = []
@@ -113,7 +125,8 @@ class Run:
                 holds = trx.commits() == [int(trx.told.split()[1])]
                 reason = "another commit of its transaction passed"
             else:
-                holds, reason = not trx.told or not trx.commits(), "its transaction commits later"
+                says_nothing = trx.told in (None, "UNKNOWN")
+                holds, reason = says_nothing or not trx.commits(), "its transaction commits later"
             if not holds:
                 raise Wrong(reason, trx.told_at)
 
@@ -133,6 +146,8 @@ class Run:
             self.tell(node, *node.waiting.pop(session), answer, at)
         elif trx and trx.status != RUNNING:
             self.is_told(answer, "PENDING")
+        elif node.left:
+            self.is_told(answer, "DISCONNECTED")
         elif node.committed < 1:
             self.is_told(answer, "NOT SYNCED")
         elif call[0] == "begin":
@@ -158,8 +173,11 @@ class Run:
 
     def tell(self, node, trx, waiting, answer, at):
         """A waiting answer is told, once, to the session of its transaction."""
-        kind, _, number = answer.rpartition(" ")
         trx.told, trx.told_at = answer, at
+        if waiting in ("UNKNOWN", "DISCONNECTED"):
+            self.is_told(answer, waiting)
+            return
+        kind, _, number = answer.rpartition(" ")
         if not re.fullmatch("0|[1-9][0-9]{0,19}", number):
             kind = None
         if kind == "COMMITTED":
@@ -243,7 +261,7 @@ class Run:
             self.fold.put(node.outbox.pop(0))
 
     def take(self, node, answer):
-        more = node.taken < len(self.fold.order)
+        more = not node.left and node.taken < len(self.fold.order)
         due = f"TOOK {node.taken + 1}" if more else "NOTHING"
         self.is_answered(answer, due)
         node.taken += more
@@ -315,15 +333,34 @@ class Run:
                 node.end(event.trx, "COMMITTED")
 
     def report(self, node, answer):
-        due = f"REPORTED {node.committed}" if node.committed else "NOT SYNCED"
-        self.is_answered(answer, due)
-        if node.committed:
+        ready = node.committed and not node.left
+        refusal = "DISCONNECTED" if node.left else "NOT SYNCED"
+        self.is_answered(answer, f"REPORTED {node.committed}" if ready else refusal)
+        if ready:
             node.outbox.append(Event("REPORT", node.number, last_seen=node.committed))
+
+    def status(self, node, answer):
+        floor = self.fold.floors[node.certified]
+        first = min(floor, node.committed) + 1
+        kept = (it for it in self.fold.commits if first <= it.number <= node.certified)
+        kinds = (kinds_at(it.commits[0]).items() for it in kept)
+        index = {(parts, kind) for each in kinds for parts, found in each for kind in found}
+        places = f"{node.taken} {node.certified} {node.committed}"
+        opened = self.fold.opens[node.certified]
+        self.is_answered(answer, f"STATUS {places} {floor} {len(index)} {opened}")
+
+    def leave(self, node, answer):
+        due = "DISCONNECTED" if node.left else f"LEFT {len(self.fold.order) + 1}"
+        self.is_answered(answer, due)
+        if not node.left:
+            self.fold.leave(node.number)
+            node.leave()
 
     def drain(self, node, answer):
         while node.outbox:
             self.order(node)
-        node.taken = len(self.fold.order)
+        if not node.left:
+            node.taken = len(self.fold.order)
         while node.certified < node.taken:
             self.certify(node)
         while node.committed < node.certified:
@@ -347,8 +384,8 @@ CALL = (
     f"begin|begin stream {N}|insert{ROW}( {N})+|update{ROW}( {N}={N})+"
     f"|(delete|share|read){ROW}|commit|rollback|poll"
 )
-# To come: status, leave, join, join fresh, transfer D.
-VERB = f"order|take|certify|start {N}|finish {N}|advance|report|drain"
+# To come: join, join fresh, transfer D.
+VERB = f"order|take|certify|start {N}|finish {N}|advance|report|status|drain|leave"
 STEP = re.compile(rf"({N})(\.{N} ({CALL})| ({VERB}))")
 HEADER = re.compile(rf"cluster ({N}) gcache {N} id \S+")
 
