@@ -17,7 +17,7 @@ use Rattle.node_laws.proofs.ClientMoves.{CanCall, client_moves}
 use Rattle.node_laws.proofs.TakeMoves.{take_moves}
 use Rattle.node_laws.proofs.CertifyMoves.{certify_moves}
 use Rattle.node_laws.proofs.UnitMoves.{CanTakeBack, start_moves, finish_moves}
-use Rattle.node_laws.proofs.ReportMoves.{report_moves}
+use Rattle.node_laws.proofs.ReportMoves.{report_moves, status_moves}
 
 module _ (order : List Event) (given : Type 0) (n : ModelNode) where
   committer_moves : (o : Option (ℕ × Live)) → MayCommit order n → committer_of n.live (n.at.committed + 1) ≡ o
@@ -122,7 +122,7 @@ step_moves order n act.Advance = at_most 1 n _ (advance_moves order _ n)
 step_moves order n act.Order = Here
 step_moves order n act.Drain = Here
 step_moves order n act.Report = report_moves order _ true n
-step_moves order n act.Status = Here
+step_moves order n act.Status = status_moves order _ true n
 step_moves order n act.Leave = Here
 step_moves order n (act.Join fresh) = Here
 step_moves order n (act.Transfer donor) = Here

@@ -28,10 +28,11 @@ pub record CanCall (n : ModelNode) (c : Call) : Type 0 where
 
 module _ (order : List Event) (works : Bool) (n : ModelNode) (s : ℕ) where
   module _ (given : Type 0) where
-    pub begin_moves : (unit : ℕ) (o : Option Live) → get n.live s ≡ o → get n.waiting s ≡ None
-        → Reaches order given works n 1 (begin_call n s unit o).1
-    begin_moves unit None there told = paid n _ (Begins s unit (record { none = there; told = told }))
-    begin_moves unit (Some t) there told = Here
+    pub begin_moves : (unit : ℕ) (o : Option Live) → is_left n.at.phase ≡ false → get n.live s ≡ o
+        → get n.waiting s ≡ None → Reaches order given works n 1 (begin_call n s unit o).1
+    begin_moves unit None stays there told =
+        paid n _ (Begins s unit (record { stays = stays; none = there; told = told }))
+    begin_moves unit (Some t) stays there told = Here
 
     module _ (t : Live) (st : Statement) (here : IsRunning n s t) (fits : given → StatementFits st)
         (range : given → ProgressInRange n.at) where
@@ -95,36 +96,36 @@ module _ (order : List Event) (works : Bool) (n : ModelNode) (s : ℕ) where
     rollback_moves (Some t) there range =
         back_moves t there range (rollback_due t n.at.serial n.at.committed) refl
 
-  served_moves : (o : Option Live) (c : Call) → get n.live s ≡ o → get n.waiting s ≡ None
-      → is_pending o ≡ false → Reaches order (CanCall n c) works n 1 (served order n s o c).1
-  served_moves o (call.Begin unit) there told idle = begin_moves _ unit o there told
-  served_moves o (call.Insert id row) there told idle =
+  served_moves : (o : Option Live) (c : Call) → is_left n.at.phase ≡ false → get n.live s ≡ o
+      → get n.waiting s ≡ None → is_pending o ≡ false → Reaches order (CanCall n c) works n 1 (served order n s o c).1
+  served_moves o (call.Begin unit) stays there told idle = begin_moves _ unit o stays there told
+  served_moves o (call.Insert id row) stays there told idle =
       statement_moves _ o (inserting id row) there idle
       (λ h. record { names = h.names; key = record { form = h.names; key = refl }; place = h.values.0; change = h.values })
       (λ h. h.range)
-  served_moves o (call.Update id change) there told idle =
+  served_moves o (call.Update id change) stays there told idle =
       statement_moves _ o (updating id change) there idle
       (λ h. record { names = (both (place_fits id) _ h.names).0; key = record { form = h.names; key = refl }; place = h.values.0; change = h.values })
       (λ h. h.range)
-  served_moves o (call.Delete id) there told idle =
+  served_moves o (call.Delete id) stays there told idle =
       statement_moves _ o (deleting id) there idle
       (λ h. record { names = h.names; key = record { form = h.names; key = refl }; place = h.values; change = h.values })
       (λ h. h.range)
-  served_moves o (call.Share id) there told idle =
+  served_moves o (call.Share id) stays there told idle =
       statement_moves _ o (sharing id) there idle (λ h. record { names = h.names; key = tt; place = h.values; change = tt })
       (λ h. h.range)
-  served_moves o (call.Read id) there told idle = Here
-  served_moves o call.Commit there told idle = commit_moves _ o there idle (λ h. h.range)
-  served_moves o call.Rollback there told idle = rollback_moves _ o there (λ h. h.range)
-  served_moves o call.Poll there told idle = Here
+  served_moves o (call.Read id) stays there told idle = Here
+  served_moves o call.Commit stays there told idle = commit_moves _ o there idle (λ h. h.range)
+  served_moves o call.Rollback stays there told idle = rollback_moves _ o there (λ h. h.range)
+  served_moves o call.Poll stays there told idle = Here
 
   asked_moves : (o : Option Live) (c : Call) → get n.live s ≡ o → get n.waiting s ≡ None
       → Reaches order (CanCall n c) works n 1 (asked order n s o c).1
   asked_moves o c there told =
       chosen 1 n (is_pending o) (reply.Pending, n) _ (λ _. Here) (λ idle.
-      chosen 1 n (is_left n.at.phase) (reply.Disconnected, n) _ (λ _. Here) (λ _.
+      chosen 1 n (is_left n.at.phase) (reply.Disconnected, n) _ (λ _. Here) (λ stays.
       chosen 1 n (is_joining n.at.phase || nat_lt n.at.committed n.at.view) (reply.NotSynced, n) (served order n s o c) (λ _. Here) (λ _.
-      served_moves o c there told idle)))
+      served_moves o c stays there told idle)))
 
   first_moves : (given : Type 0) (o : Option Reply) (otherwise : Reply × ModelNode)
       → (o ≡ None → Reaches order given works n 1 otherwise.1)

@@ -1,34 +1,38 @@
--- Over runs of a cluster: how fast it grows, that each node keeps its facts and is in step with the order, that members
--- differ, and that no session has a transaction while an answer waits for it.
-use Rattle.std.proofs.Common.{◌≡◌, ◌⊎◌, inl, inr, ℕ, zero, suc, ◌+◌, ◌≤◌, ◌<◌, ◌^◌, true, List, [], ◌∷◌, ◌++◌, length, Some, refl, ap, sym, subst, ◌∙◌, arith, length-append}
-use Rattle.std.specs.Prelude.{slice_get, map, IsTrue}
+-- Over runs of a cluster: how fast it grows, that each node keeps its facts and is in step with the order until it leaves,
+-- that members differ, and that no session has a transaction while an answer waits for it.
+use Rattle.std.proofs.Common.{◌≡◌, ◌⊎◌, inl, inr, ℕ, zero, suc, ◌+◌, ◌≤◌, ◌<◌, ◌^◌, true, false, List, [], ◌∷◌, ◌++◌, length, Some, refl, ap, sym, subst, ◌∙◌, arith, length-append, true≢false}
+use Rattle.std.specs.Prelude.{slice_get, map}
 use Rattle.std.specs.List.{AllByRecursion}
 use Rattle.std.proofs.lemmas.List.{length-map}
 use Rattle.std.proofs.lemmas.Option.{same_Some}
 use Rattle.finite_map.specs.FiniteMap.{len, len-empty, get-empty}
 use Rattle.std.specs.Ordering.{nat_cmp}
 use Rattle.client_trx.specs.Live.{Live}
-use Rattle.row_model.specs.Names.{call_fits}
 use Rattle.order_event.specs.declared.event.Event.{Event}
 use Rattle.order_event.specs.declared.event.Message.{Message}
 use Rattle.order_event.specs.declared.step.Act.{Act}
 use Rattle.order_event.specs.declared.step.Act.TheVariants as act
 use Rattle.order_event.specs.declared.step.Step.{Step}
-use Rattle.group_order.specs.Order.{event_of, start_order, up_to}
-use Rattle.node_meaning.specs.Node.{ModelNode, start_node}
+use Rattle.group_order.specs.Order.{event_of, start_order, up_to, view_without}
+use Rattle.node_meaning.specs.declared.progress.Progress.{Progress}
+use Rattle.node_meaning.specs.Node.{ModelNode, is_left, start_node}
+use Rattle.node_meaning.specs.Leaving.{left_node}
 use Rattle.node_meaning.specs.Cluster.{ModelCluster, start_cluster, set_at, cluster_step, run, will_order}
-use Rattle.node_meaning.specs.Facts.{Facts, CallInRange, ProgressInRange}
+use Rattle.node_meaning.specs.Facts.{Facts, ProgressInRange}
 use Rattle.node_meaning.proofs.EntryLaws.{some_not_none}
 use Rattle.node_meaning.proofs.GrowFacts.{facts_grow}
 use Rattle.node_meaning.proofs.StartNode.{start_facts}
+pub use Rattle.node_laws.specs.Fits.{ActFits}
 use Rattle.node_laws.specs.Sizes.{node_size, sizes, cluster_size}
 use Rattle.node_laws.proofs.Moves.{with_ordered, Orders, Reaches}
 use Rattle.node_laws.proofs.AdvanceMoves.{CanDrain, CanStep}
 use Rattle.node_laws.proofs.Counts.{Grows, reach_grows}
 use Rattle.node_laws.proofs.FactsMoved.{facts_moved, facts_reached}
-use Rattle.node_laws.proofs.InStep.{IsInStep, in_step_reached, in_step_ordered, in_step_beside}
+use Rattle.node_laws.proofs.InStep.{IsInStep, in_step_reached, in_step_ordered, in_step_beside, in_step_viewed, phase_reached}
+use Rattle.node_laws.proofs.Cleared.{ClearedOnceLeft, cleared_reached, cleared_ordered, left_cleared}
+use Rattle.node_laws.proofs.Leaving.{left_at, left_grows, left_idle, facts_left_over}
 use Rattle.node_laws.proofs.Waiting.{AreIdle, idle_reached}
-use Rattle.node_laws.proofs.ClusterMoves.{Stepped, Still, Moved, Ordered, cluster_moves}
+use Rattle.node_laws.proofs.ClusterMoves.{Stepped, Still, Moved, Ordered, Left, cluster_moves}
 
 -- ---- one node takes another's place
 -- what is found is the new one, or was there
@@ -95,6 +99,22 @@ stepped_grows c given ordered d (Moved i n m there row) =
       count = set_count c.nodes i m;
       each = λ j o at. grown_by c.nodes i n m there grows j o (found c.nodes i m j o at);
     }
+stepped_grows c given ordered d (Left i n there stays) =
+    let view = view_without c.order n.at.member ∷ [] in
+    let m = left_node n in
+    let zero_grows = left_grows n in
+    let grows : Grows 1 n m = record {
+      member = zero_grows.member;
+      begin = omega (arith, zero_grows.begin);
+      serial = omega (arith, zero_grows.serial);
+      size = omega (arith, zero_grows.size);
+    } in
+    record {
+      size = omega (arith, sizes-set c.nodes i n m there, zero_grows.size, length-append c.order view);
+      order = length-append c.order view;
+      count = set_count c.nodes i m;
+      each = λ j o at. grown_by c.nodes i n m there grows j o (found c.nodes i m j o at);
+    }
 stepped_grows c given ordered d (Ordered i n m front back there is row) =
     let more = map (event_of n.at.member) front in
     let sent = with_ordered n front back in
@@ -140,7 +160,8 @@ module _ (nodes : List ModelNode) (i : ℕ) (n m : ModelNode) (there : slice_get
 -- ---- what holds of a cluster that has made fewer than so many steps
 pub record Sound (most : ℕ) (order : List Event) (n : ModelNode) : Type 0 where
   pub facts : Facts order n
-  pub in_step : IsInStep order n
+  pub in_step : is_left n.at.phase ≡ false → IsInStep order n
+  pub cleared : ClearedOnceLeft n
   pub idle : AreIdle n.waiting n.live
   pub serial : n.at.serial + len n.live ≤ most
   pub begin : n.at.begin ≤ most
@@ -151,30 +172,16 @@ pub record SoundCluster (most : ℕ) (c : ModelCluster) : Type 0 where
   pub differ : Differ c.nodes
   pub nodes : (i : ℕ) (n : ModelNode) → slice_get c.nodes i ≡ Some n → Sound most c.order n
 
--- a step whose call fits
-abbrev pub ActFits : Act → Type 0
-ActFits (act.Client session call) = IsTrue (call_fits call) × CallInRange call
-ActFits act.Order = Unit {0}
-ActFits act.Take = Unit {0}
-ActFits act.Certify = Unit {0}
-ActFits (act.Start number) = Unit {0}
-ActFits (act.Finish number) = Unit {0}
-ActFits act.Advance = Unit {0}
-ActFits act.Drain = Unit {0}
-ActFits act.Report = Unit {0}
-ActFits act.Status = Unit {0}
-ActFits act.Leave = Unit {0}
-ActFits (act.Join fresh) = Unit {0}
-ActFits (act.Transfer donor) = Unit {0}
-
 -- a node after moves that let it grow by at most one
 reached_sound : (most : ℕ) (order : List Event) (given : Type 0) → given → (n : ModelNode) (k : ℕ) (m : ModelNode)
-    → Reaches order given true n k m → Facts order n → IsInStep order n → AreIdle n.waiting n.live
-    → n.at.member < 2 ^ 32 → n.at.serial + len n.live + k ≤ most → n.at.begin + k ≤ most → Sound most order m
-reached_sound most order given g n k m row facts in_step idle member serial begin =
+    → Reaches order given true n k m → Facts order n → (is_left n.at.phase ≡ false → IsInStep order n)
+    → ClearedOnceLeft n → AreIdle n.waiting n.live → n.at.member < 2 ^ 32 → n.at.serial + len n.live + k ≤ most → n.at.begin + k ≤ most → Sound most order m
+reached_sound most order given g n k m row facts in_step cleared idle member serial begin =
     let grows = reach_grows order given true n k m row in record {
       facts = facts_reached order given true g n k m row facts;
-      in_step = in_step_reached order given true n k m row in_step;
+      in_step = λ stays. in_step_reached order given true n k m row
+          (in_step (ap is_left (sym (phase_reached order given true n k m row)) ∙ stays));
+      cleared = cleared_reached order given true n k m row cleared;
       idle = idle_reached order given true n k m row idle;
       serial = omega (arith, serial, grows.serial);
       begin = omega (arith, begin, grows.begin);
@@ -218,23 +225,32 @@ module _ (most : ℕ) (c : ModelCluster) (small : most < 2 ^ 63) (sound : SoundC
   same_sound n s = record {
     facts = s.facts;
     in_step = s.in_step;
+    cleared = s.cleared;
     idle = s.idle;
     serial = omega (arith, s.serial);
     begin = omega (arith, s.begin);
     member = s.member;
   }
 
-  -- and one over an order that grows by what another one had sent
-  other_sound : (other : ℕ) (front : List Message) (n : ModelNode) → (other ≡ n.at.member → ⊥)
-      → Sound most c.order n → Sound (most + 1) (c.order ++ map (event_of other) front) n
-  other_sound other front n differs s = record {
-    facts = facts_grow c.order (map (event_of other) front) n s.facts;
-    in_step = in_step_beside c.order n s.facts.in_order.taken_fits s.in_step other differs front;
+  -- and one over an order that grows by what is in step with it
+  over_sound : (more : List Event) (n : ModelNode) → (IsInStep c.order n → IsInStep (c.order ++ more) n)
+      → Sound most c.order n → Sound (most + 1) (c.order ++ more) n
+  over_sound more n in_step s = record {
+    facts = facts_grow c.order more n s.facts;
+    in_step = λ stays. in_step (s.in_step stays);
+    cleared = s.cleared;
     idle = s.idle;
     serial = omega (arith, s.serial);
     begin = omega (arith, s.begin);
     member = s.member;
   }
+
+  -- by what another one had sent
+  other_sound : (other : ℕ) (front : List Message) (n : ModelNode) → (other ≡ n.at.member → ⊥)
+      → Sound most c.order n → Sound (most + 1) (c.order ++ map (event_of other) front) n
+  other_sound other front n differs s =
+      over_sound (map (event_of other) front) n
+      (λ h. in_step_beside c.order n s.facts.in_order.taken_fits h other differs front) s
 
   -- where one node was changed, all are sound if it is, and each other one is over the new order
   all_sound : (order : List Event) (i : ℕ) (m : ModelNode) → Sound (most + 1) order m
@@ -249,7 +265,7 @@ module _ (most : ℕ) (c : ModelCluster) (small : most < 2 ^ 63) (sound : SoundC
     moved_sound i n m there row =
         let s = sound.nodes i n there in
         let grows = reach_grows c.order (given n) true n 1 m row in
-        let new = reached_sound (most + 1) c.order (given n) (can n s) n 1 m row s.facts s.in_step s.idle s.member
+        let new = reached_sound (most + 1) c.order (given n) (can n s) n 1 m row s.facts s.in_step s.cleared s.idle s.member
         (omega (arith, s.serial)) (omega (arith, s.begin)) in
         record {
           size = omega (arith, sound.size, sizes-set c.nodes i n m there, grows.size);
@@ -284,7 +300,8 @@ module _ (most : ℕ) (c : ModelCluster) (small : most < 2 ^ 63) (sound : SoundC
           begin = omega (arith, small, s.begin);
         } in
         let new = reached_sound (most + 1) order (CanDrain order sent) can sent 0 m row facts
-        (in_step_ordered c.order n inside s.in_step front back) s.idle s.member
+        (λ stays. in_step_ordered c.order n inside (s.in_step stays) front back)
+        (λ left. cleared_ordered n front back is (s.cleared left)) s.idle s.member
         (omega (arith, s.serial)) (omega (arith, s.begin)) in
         record {
           size = size;
@@ -295,6 +312,33 @@ module _ (most : ℕ) (c : ModelCluster) (small : most < 2 ^ 63) (sound : SoundC
               (sound.nodes k x was)) j o (found c.nodes i m j o at);
         }
 
+    left_sound : (i : ℕ) (n : ModelNode) → slice_get c.nodes i ≡ Some n
+        → SoundCluster (most + 1)
+        (record { order = c.order ++ view_without c.order n.at.member ∷ []; nodes = set_at c.nodes i (left_node n) })
+    left_sound i n there =
+        let view = view_without c.order n.at.member ∷ [] in
+        let s = sound.nodes i n there in
+        let m = left_node n in
+        let grows = left_grows n in
+        let new : Sound (most + 1) (c.order ++ view) m = record {
+          facts = facts_left_over n c.order view s.facts;
+          in_step = λ stays. absurd (true≢false (ap (λ (at : Progress). is_left at.phase) (sym (left_at n)) ∙ stays));
+          cleared = λ left. left_cleared n;
+          idle = left_idle n s.idle;
+          serial = omega (arith, s.serial, grows.serial);
+          begin = omega (arith, s.begin, grows.begin);
+          member = subst (λ k. k < 2 ^ 32) (sym grows.member) s.member;
+        } in
+        record {
+          size = omega (arith, sound.size, sizes-set c.nodes i n m there, grows.size, length-append c.order view);
+          differ = differ_set c.nodes i n m there grows.member sound.differ;
+          nodes = λ j o at. all_sound (c.order ++ view) i m new
+              (λ k x beside was.
+              let h = sound.nodes k x was in
+              over_sound view x (λ step. in_step_viewed c.order x h.facts.in_order.taken_fits step _ _) h)
+              j o (found c.nodes i m j o at);
+        }
+
     stepped_sound : (ordered : ℕ) (d : ModelCluster) → Stepped c given ordered d → SoundCluster (most + 1) d
     stepped_sound ordered d Still = record {
       size = omega (arith, sound.size);
@@ -302,6 +346,7 @@ module _ (most : ℕ) (c : ModelCluster) (small : most < 2 ^ 63) (sound : SoundC
       nodes = λ i n there. same_sound n (sound.nodes i n there);
     }
     stepped_sound ordered d (Moved i n m there row) = moved_sound i n m there row
+    stepped_sound ordered d (Left i n there stays) = left_sound i n there
     stepped_sound ordered d (Ordered i n m front back there is row) = ordered_sound i n m front back there is row
 
   pub step_sound : (step : Step) → ActFits step.act → SoundCluster (most + 1) (cluster_step c step).1
@@ -390,7 +435,8 @@ start_nodes order id [] few in_step i n there = cc
 start_nodes order id (m ∷ ms) few in_step zero n there =
     subst (Sound 1 order) (same_Some (start_node id m) n there) (record {
       facts = start_facts order id m;
-      in_step = in_step m;
+      in_step = λ stays. in_step m;
+      cleared = λ left. absurd (true≢false (sym left));
       idle = nothing_waits id m;
       serial = omega (arith, len-empty nat_cmp Live);
       begin = omega arith;

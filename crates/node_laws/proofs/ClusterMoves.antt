@@ -1,14 +1,17 @@
--- Every step of a cluster is moves of one of its nodes, and orders messages at the front of that node's outbox.
-use Rattle.std.proofs.Common.{◌≡◌, ℕ, ◌-◌, true, List, [], ◌∷◌, ◌++◌, length, Option, None, Some, refl, ap, sym, append-nil}
+-- Every step of a cluster is moves of one of its nodes, and orders messages at the front of that node's outbox, or a view
+-- without it.
+use Rattle.std.proofs.Common.{◌≡◌, ℕ, ◌-◌, Bool, true, false, cond, List, [], ◌∷◌, ◌++◌, length, Option, None, Some, refl, ap, sym, append-nil}
 use Rattle.std.specs.Prelude.{slice_get, map}
 use Rattle.order_event.specs.declared.event.Message.{Message}
 use Rattle.order_event.specs.declared.step.Act.{Act}
 use Rattle.order_event.specs.declared.step.Act.TheVariants as act
+use Rattle.order_event.specs.declared.step.Answer.TheVariants as answer
 use Rattle.order_event.specs.declared.step.Step.{Step}
-use Rattle.group_order.specs.Order.{event_of}
-use Rattle.node_meaning.specs.Node.{ModelNode}
+use Rattle.group_order.specs.Order.{event_of, view_without}
+use Rattle.node_meaning.specs.Node.{ModelNode, is_left}
+use Rattle.node_meaning.specs.Leaving.{left_node}
 use Rattle.node_meaning.specs.Steps.{first_sent, sent_out, node_step, drained}
-use Rattle.node_meaning.specs.Cluster.{ModelCluster, set_at, order_first, drain, step_of, step_at, cluster_step, orders_of, node_orders, orders_at, will_order}
+use Rattle.node_meaning.specs.Cluster.{ModelCluster, set_at, order_first, drain, leave_now, step_of, step_at, cluster_step, orders_of, node_orders, orders_at, will_order}
 use Rattle.node_laws.proofs.Moves.{with_ordered, Reaches, Here, to_same}
 use Rattle.node_laws.proofs.AdvanceMoves.{CanDrain, CanStep, step_moves, drained_moves}
 
@@ -24,6 +27,12 @@ pub data Stepped (c : ModelCluster) (given : ModelNode → Type 0) : ℕ → Mod
       → Reaches (c.order ++ map (event_of n.at.member) front)
       (CanDrain (c.order ++ map (event_of n.at.member) front) (with_ordered n front back)) true (with_ordered n front back) 0 m
       → Stepped c given (length front) (record { order = c.order ++ map (event_of n.at.member) front; nodes = set_at c.nodes i m })
+  -- a view without the node is ordered, and it leaves
+  Left : (i : ℕ) (n : ModelNode) → slice_get c.nodes i ≡ Some n → is_left n.at.phase ≡ false
+      → Stepped c given 1 (record {
+        order = c.order ++ view_without c.order n.at.member ∷ [];
+        nodes = set_at c.nodes i (left_node n);
+      })
 
 module _ (c : ModelCluster) (i : ℕ) where
   module _ (n : ModelNode) (there : slice_get c.nodes i ≡ Some n) where
@@ -41,6 +50,11 @@ module _ (c : ModelCluster) (i : ℕ) where
         let sent = with_ordered n n.outbox [] in
         Ordered i n (drained order sent) n.outbox [] there (sym (append-nil n.outbox)) (drained_moves order (CanDrain order sent) sent (λ g. g))
 
+    leave_moves : (given : ModelNode → Type 0) (b : Bool) → is_left n.at.phase ≡ b
+        → Stepped c given (cond b 0 1) (cond b (answer.Disconnected, c) (leave_now c i n)).1
+    leave_moves given true is = Still
+    leave_moves given false is = Left i n there is
+
     act_moves : (a : Act) → Stepped c (λ n. CanStep n a) (node_orders a n) (step_of c i n a).1
     act_moves (act.Client session call) = node_moves (act.Client session call)
     act_moves act.Order = first_moves (λ n. CanStep n act.Order) n.outbox refl
@@ -51,8 +65,8 @@ module _ (c : ModelCluster) (i : ℕ) where
     act_moves act.Advance = node_moves act.Advance
     act_moves act.Drain = drain_moves (λ n. CanStep n act.Drain)
     act_moves act.Report = node_moves act.Report
-    act_moves act.Status = Still
-    act_moves act.Leave = Still
+    act_moves act.Status = node_moves act.Status
+    act_moves act.Leave = leave_moves (λ n. CanStep n act.Leave) (is_left n.at.phase) refl
     act_moves (act.Join fresh) = Still
     act_moves (act.Transfer donor) = Still
 

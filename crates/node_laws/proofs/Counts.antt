@@ -48,7 +48,7 @@ move_grows order given n c m (TakesBack s t w o there due range) =
 move_grows order given n c m (Unlocks s t to there unlocked) =
     let l = len-over numbers n.live s (with_status t to) (ap is_some there) in
     record { member = refl; begin = omega arith; serial = omega (arith, l); size = omega (arith, l) }
-move_grows order given n c m Reports =
+move_grows order given n c m (Reports stays) =
     let q = length-append n.outbox (message.Report n.at.committed ∷ []) in
     record { member = refl; begin = omega arith; serial = omega arith; size = omega (arith, q) }
 move_grows order given n c m (Orders front back is) =

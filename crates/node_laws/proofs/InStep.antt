@@ -1,6 +1,6 @@
--- A node's messages behind what it took are exactly those that it had ordered.
+-- A node's messages behind what it took are exactly those that it had ordered, until it leaves.
 use Rattle.std.proofs.Common.{◌≡◌, ℕ, ◌+◌, ◌≤◌, Bool, true, false, cond, List, [], ◌∷◌, ◌++◌, length, Option, None, Some, refl, ap, sym, subst, ◌∙◌, add-one, append-nil, eq-eqb, eqb→eq}
-use Rattle.std.specs.Prelude.{◌==◌, T, not, drop, map, if◌then◌else◌}
+use Rattle.std.specs.Prelude.{◌==◌, T, not, drop, map}
 use Rattle.std.specs.List.{filter_map, find, cons_option}
 use Rattle.std.specs.Option.{unwrap_or}
 use Rattle.std.proofs.lemmas.Bool.{false_from_ne_true}
@@ -14,22 +14,8 @@ use Rattle.group_order.specs.Order.{event_of}
 use Rattle.node_meaning.specs.Node.{ModelNode}
 use Rattle.node_meaning.specs.Steps.{is_write, is_report, without_first, is_this_write, unqueued}
 use Rattle.node_meaning.proofs.CertifyFacts.{drop_one}
-use Rattle.node_laws.proofs.Moves.{Kind, Move, Orders, Takes, May, Reaches, kept}
-
--- what an event was sent as, where it is the member's
-abbrev pub message_of : ℕ → Event → Option Message
-message_of member (event.Write sender body) =
-    if sender == member then Some (message.Write body) else None
-message_of member (event.Report sender number) =
-    if sender == member then Some (message.Report number) else None
-message_of member (event.View version members) = None
-
--- the member's messages among the events behind the first so many
-abbrev pub messages_behind : ℕ → ℕ → List Event → List Message
-messages_behind member taken order = filter_map (message_of member) (drop taken order)
-
-abbrev pub IsInStep : List Event → ModelNode → Type 0
-IsInStep order n = n.ordered ≡ messages_behind n.at.member n.at.taken order
+use Rattle.node_laws.proofs.Moves.{Kind, Move, Orders, Leaves, Takes, May, Reaches, kept}
+pub use Rattle.node_laws.specs.InStep.{message_of, messages_behind, IsInStep, IsCleared}
 
 -- ---- an event is taken
 module _ (n : ModelNode) (ordered rest : List Message) where
@@ -64,6 +50,7 @@ module _ (n : ModelNode) (ordered rest : List Message) where
 pub in_step_moved : (order : List Event) (given : Type 0) (works : Bool) (n : ModelNode) (kind : Kind) (m : ModelNode)
     → May works kind → Move order given n kind m → IsInStep order n → IsInStep order m
 in_step_moved order given works n kind m may (Orders front back is) h = absurd may
+in_step_moved order given works n kind m may (Leaves can) h = absurd may
 in_step_moved order given works n kind m may (Takes e ordered there leaves) h =
     let member = n.at.member in
     event_left n ordered (messages_behind member (n.at.taken + 1) order) e leaves.queue
@@ -123,3 +110,19 @@ module _ (order : List Event) (n : ModelNode) (inside : n.at.taken ≤ length or
   in_step_beside other differs front =
       sym (behind_more (map (event_of other) front)
       ∙ ap (λ ms. n.ordered ++ ms) (other_messages n.at.member other differs front) ∙ append-nil n.ordered)
+
+  -- by a view
+  pub in_step_viewed : (version : ℕ) (members : List ℕ) → IsInStep (order ++ event.View version members ∷ []) n
+  in_step_viewed version members = sym (behind_more (event.View version members ∷ []) ∙ append-nil n.ordered)
+
+-- ---- rows of moves: the node stays in the group, or out of it
+pub phase_moved : (order : List Event) (given : Type 0) (works : Bool) (n : ModelNode) (kind : Kind) (m : ModelNode)
+    → May works kind → Move order given n kind m → m.at.phase ≡ n.at.phase
+phase_moved order given works n kind m may (Leaves can) = absurd may
+phase_moved order given works n kind m may _ = refl
+
+pub phase_reached : (order : List Event) (given : Type 0) (works : Bool) (n : ModelNode) (k : ℕ) (m : ModelNode)
+    → Reaches order given works n k m → m.at.phase ≡ n.at.phase
+phase_reached order given works n k m row =
+    kept (λ o. o.at.phase ≡ n.at.phase)
+    (λ o kind q may move h. phase_moved order given works o kind q may move ∙ h) n k m row refl

@@ -24,8 +24,9 @@ use Rattle.client_trx.specs.Live.{Live, is_sent, has_locks, with_status, passed_
 use Rattle.client_trx.specs.declared.status.Status.{Status}
 use Rattle.client_trx.specs.declared.status.Status.TheVariants as status
 use Rattle.node_meaning.specs.declared.progress.Stage.TheVariants.{Started, Finished}
-use Rattle.node_meaning.specs.Node.{ModelNode, ApplyUnit, set_live, end_with, send, ahead, passed_at}
+use Rattle.node_meaning.specs.Node.{ModelNode, ApplyUnit, is_left, is_connected, set_live, end_with, send, ahead, passed_at}
 use Rattle.node_meaning.specs.Client.{Statement, extended, met_by, refusal, send_fragment, send_commit}
+use Rattle.node_meaning.specs.Leaving.{waits_in, told_at_leave, departed}
 use Rattle.node_meaning.specs.Steps.{unqueued, session_of, is_local, touching_before, committer_of, is_ready, put_report}
 use Rattle.node_meaning.specs.Facts.{ProgressInRange, IsUndecided, own_body, sent_body}
 use Rattle.node_meaning.proofs.ClientFacts.{StatementFits, first}
@@ -68,8 +69,9 @@ ended_with n s w o =
     record (send n w) { live = remove n.live s; waiting = with_reply n.waiting s o }
 
 -- ---- what holds where they are made
--- the session has no transaction, and no answer waits for it
+-- the node has not left, the session has no transaction, and no answer waits for it
 pub record MayBegin (n : ModelNode) (s : ℕ) : Type 0 where
+  pub stays : is_left n.at.phase ≡ false
   pub none : get n.live s ≡ None
   pub told : get n.waiting s ≡ None
 
@@ -83,8 +85,10 @@ pub data Unlocked : Status → Status → Type 0 where
   Sent : Unlocked status.CommitSent status.KilledSent
   Passed : (number : ℕ) → Unlocked (status.Certified number) (status.Replaying number)
 
--- what the event was sent as is the first of its kind in the queue, where it is the node's, and leaves it
+-- the node is connected; what the event was sent as is the first of its kind in the queue, where it
+-- is the node's, and leaves it
 pub record LeavesQueue (n : ModelNode) (e : Event) (ordered : List Message) : Type 0 where
+  pub connected : is_connected n.at.phase ≡ true
   pub queue : unqueued n e ≡ Some (record n { ordered = ordered })
   pub bodies : filter_map sent_body (n.ordered ++ n.outbox)
       ≡ filter_map (own_body n.at.member) (e ∷ []) ++ filter_map sent_body (ordered ++ n.outbox)
@@ -130,6 +134,11 @@ pub record MayStart (order : List Event) (n : ModelNode) (number : ℕ) (commit 
 pub record MayCommit (order : List Event) (n : ModelNode) : Type 0 where
   pub more : n.at.committed == n.at.certified ≡ false
   pub ready : is_ready order n (n.at.committed + 1) ≡ true
+
+-- only such transactions are live whose commit is taken
+pub record MayLeave (n : ModelNode) : Type 0 where
+  pub stay : (s : ℕ) (t : Live) → get n.live s ≡ Some t
+      → told_at_leave (waits_in (n.ordered ++ n.outbox) t) t.status ≡ None
 
 -- ---- the moves
 -- what a move takes part in
@@ -179,10 +188,12 @@ pub data Move (order : List Event) (given : Type 0) (n : ModelNode) : Kind → M
   Unlocks : (s : ℕ) (t : Live) (to : Status) → get n.live s ≡ Some t → Unlocked t.status to
       → Move order given n Quiet (set_live n s (with_status t to))
   -- a report of what is committed waits to be ordered
-  Reports : Move order given n Pays (put_report n)
+  Reports : is_left n.at.phase ≡ false → Move order given n Pays (put_report n)
   -- messages at the front of the outbox are ordered
   Orders : (front back : List Message) → n.outbox ≡ front ++ back
       → Move order given n Joint (with_ordered n front back)
+  -- the node leaves, as a view without it is ordered, and its queue is lost
+  Leaves : MayLeave n → Move order given n Joint (departed n)
   -- the next event is taken, and its message leaves the queue
   Takes : (e : Event) (ordered : List Message) → slice_get order n.at.taken ≡ Some e
       → LeavesQueue n e ordered → Move order given n Quiet (with_taken n ordered)

@@ -33,8 +33,9 @@ use Rattle.node_meaning.proofs.SentLaws.{pending-sent, pending-reported}
 use Rattle.node_meaning.proofs.TakeFacts.{pending_same}
 use Rattle.node_meaning.proofs.CertifyFacts.{pending_first}
 use Rattle.node_meaning.proofs.AdvanceFacts.{commits_at, stands_still, passed_by, same_begin}
-use Rattle.node_laws.proofs.Moves.{Kind, Move, Begins, Extends, Streams, Sends, Ends, TakesBack, Unlocks, Reports, Orders, Takes, Certifies, Passes, Fails, Advances, Commits, IsRunning, Unlocked, Sent, Passed, IsJudged, verdict_next, MayCertify, LeavesQueue, with_certified, with_taken}
+use Rattle.node_laws.proofs.Moves.{Kind, Move, Begins, Extends, Streams, Sends, Ends, TakesBack, Unlocks, Reports, Orders, Leaves, Takes, Certifies, Passes, Fails, Advances, Commits, IsRunning, Unlocked, Sent, Passed, IsJudged, verdict_next, MayCertify, LeavesQueue, with_certified, with_taken}
 use Rattle.node_laws.proofs.Sendable.{due_is}
+use Rattle.node_laws.proofs.LeftSets.{spelled_left}
 use Rattle.node_laws.proofs.SetLists.{equal, unequal, all_each, of-own, of-new}
 use Rattle.node_laws.proofs.Lining.{replaced_here, ended_here, sent, sent_last, begun}
 use Rattle.node_laws.proofs.Gathering.{Fewer, gathered_begun, gathered_added}
@@ -470,9 +471,10 @@ module _ (order : List Event) (n : ModelNode)
       (due_is t n.at.serial p w due) (rollback_is_sent s t there (can s t there) (range g inside))
   sent_moved given g can k m (Unlocks s t to there can_unlock) =
       same_sets n.at.begin _ (unlocked s t there to can_unlock)
-  sent_moved given g can k m Reports =
+  sent_moved given g can k m (Reports stays) =
       same_pending _ (pending-reported order n.at.member c n.at.taken n.ordered n.outbox p)
   sent_moved given g can k m (Orders front back is) = same_pending _ (orders_pending front back is)
+  sent_moved given g can k m (Leaves may) = spelled_left order n h may
   sent_moved given g can k m (Takes e ordered there same) =
       same_pending _ (takes_pending e ordered there same)
   sent_moved given g can k m (Certifies e may) = certified e may

@@ -14,6 +14,8 @@ use Rattle.order_event.specs.declared.event.Event.{Event}
 use Rattle.cert_meaning.specs.declared.items.CommitItem.{CommitItem}
 use Rattle.client_trx.specs.Live.{Live}
 use Rattle.row_locks.specs.Locks.{touching_sessions}
+use Rattle.node_meaning.specs.declared.progress.Phase.{Phase}
+use Rattle.node_meaning.specs.declared.progress.Phase.TheVariants as phase
 use Rattle.node_meaning.specs.Node.{ModelNode, locks_of, end_live, ahead}
 use Rattle.node_meaning.specs.Client.{Statement, statement, begin_call, commit_call, rollback_call, is_pending, told_first, client}
 use Rattle.node_meaning.specs.Steps.{is_local, started, touching_before, take_step, certify_step, start_step, finish_step, advance_step, report_step, drained}
@@ -29,10 +31,11 @@ use Rattle.node_laws.proofs.ReportMoves.{report_moves}
 use Rattle.node_laws.proofs.AdvanceMoves.{CanDrain, advance_moves, drained_moves}
 use Rattle.node_laws.proofs.FactsMoved.{facts_moved, facts_reached, certified_inside}
 
--- whatever answers wait
-beside : (order : List Event) (n : ModelNode) (waiting : FiniteMap nat_cmp Reply) → Facts order n
-    → Facts order (record n { waiting = waiting })
-beside order n waiting f = record {
+-- whatever answers wait, and whether or not it has left
+beside : (order : List Event) (n : ModelNode) (now : Phase) (waiting : FiniteMap nat_cmp Reply)
+    → Facts order n
+    → Facts order (record n { at = record n.at { phase = now }; waiting = waiting })
+beside order n now waiting f = record {
   in_order = f.in_order;
   sendable = f.sendable;
   sent = f.sent;
@@ -88,11 +91,18 @@ module _ (order : List Event) (n : ModelNode) where
     pub begin_keeps : (unit : ℕ) (o : Option Live) → get n.live s ≡ o → Facts order n
         → Facts order (begin_call n s unit o).1
     begin_keeps unit None there f =
-        let told : ModelNode = record n { waiting = remove n.waiting s } in
-        let may : MayBegin told s = record { none = there; told = get-taken numbers n.waiting s } in
-        beside order (with_begun told s unit) n.waiting
+        let told : ModelNode = record n {
+          at = record n.at { phase = phase.Connected };
+          waiting = remove n.waiting s;
+        } in
+        let may : MayBegin told s = record {
+          stays = refl;
+          none = there;
+          told = get-taken numbers n.waiting s;
+        } in
+        beside order (with_begun told s unit) n.at.phase n.waiting
         (facts_moved order (Unit {0}) tt told Pays _ (Begins s unit may)
-        (beside order n told.waiting f))
+        (beside order n phase.Connected told.waiting f))
     begin_keeps unit (Some t) there f = f
 
     pub statement_keeps : (o : Option Live) → get n.live s ≡ o → is_pending o ≡ false

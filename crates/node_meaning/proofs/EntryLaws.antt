@@ -10,7 +10,7 @@ use Rattle.std.specs.FinMap.Entries as entries
 use Rattle.std.proofs.lemmas.Bool.{false_from_ne_true, or_parts}
 use Rattle.std.proofs.lemmas.Option.{same_Some}
 use Rattle.finite_map.specs.FiniteMap.{FiniteMap, get, get-entries}
-use Rattle.finite_map.proofs.Edits.{numbers, tied, itself}
+use Rattle.finite_map.proofs.Edits.{numbers, tied, untied, itself}
 use Rattle.key_sets.proofs.ListLemmas.{In, some_in, any_of}
 
 both_true : (a b : Bool) → T (a && b) → T a × T b
@@ -63,6 +63,26 @@ module _ {X : Type 0} where
   keyed_from_in q v (e ∷ es) rising (inr later) =
       let parts = both_true _ _ rising in
       not_here q v e es (eq_by_cmp nat_cmp q e.0) refl (below_none e.0 es parts.0) (keyed_from_in q v es parts.1 later)
+
+  -- the entries behind the first one rise, and have other keys
+  pub later_sorted : (e : ℕ × X) (es : List (ℕ × X)) → T (is_sorted nat_cmp (e ∷ es))
+      → T (is_sorted nat_cmp es)
+  later_sorted e es rising = (both_true _ _ rising).1
+
+  below_differs : (p : ℕ) (es : List (ℕ × X)) → T (below_all nat_cmp p es) → (q : ℕ) (v : X)
+      → In (q, v) es → eq_by_cmp nat_cmp p q ≡ false
+  below_differs p [] below q v i = absurd i
+  below_differs p (e ∷ es) below q v (inl same) =
+      ap (λ (x : ℕ × X). eq_by_cmp nat_cmp p x.0) same
+      ∙ below_not_same (nat_cmp p e.0) (both_true _ _ below).0
+  below_differs p (e ∷ es) below q v (inr i) = below_differs p es (both_true _ _ below).1 q v i
+
+  pub later_key : (e : ℕ × X) (es : List (ℕ × X)) → T (is_sorted nat_cmp (e ∷ es)) → (q : ℕ) (v : X)
+      → In (q, v) es → eq_by_cmp nat_cmp q e.0 ≡ false
+  later_key e es rising q v i =
+      false_from_ne_true (eq_by_cmp nat_cmp q e.0) (λ tie.
+      untied numbers e.0 q (below_differs e.0 es (both_true _ _ rising).0 q v i)
+      (sym (tied numbers q e.0 tie)))
 
   -- an entry is what the map has at its key
   pub get_from_in : (m : FiniteMap nat_cmp X) (q : ℕ) (v : X) → In (q, v) m.entries → get m q ≡ Some v
