@@ -9,20 +9,13 @@ use Rattle.write_set.specs.declared.write_set.WriteSet.{WriteSet}
 use Rattle.client_trx.specs.Live.{Live, is_uncommitted, with_status, passed_status, rollback_due, rollback_of}
 use Rattle.client_trx.specs.declared.status.Status.{Status}
 use Rattle.client_trx.specs.declared.status.Status.TheVariants as status
-use Rattle.node_meaning.specs.declared.progress.Phase.{Phase}
-use Rattle.node_meaning.specs.declared.progress.Phase.TheVariants as phase
-use Rattle.node_meaning.specs.Node.{ModelNode, is_left, is_connected}
+use Rattle.node_meaning.specs.Node.{ModelNode, is_left}
 use Rattle.node_meaning.specs.Leaving.{told_at_leave, left_node}
 use Rattle.node_laws.specs.InStep.{IsCleared}
 use Rattle.node_laws.proofs.Moves.{Kind, Move, Begins, Extends, Streams, Sends, Ends, TakesBack, Unlocks, Reports, Orders, Leaves, Takes, Passes, Fails, Commits, IsRunning, Unlocked, Sent, Passed, May, Reaches, kept}
 use Rattle.node_laws.proofs.LeftSets.{front_none}
 use Rattle.node_laws.proofs.Leaving.{may_leave}
-use Rattle.node_laws.proofs.InStep.{phase_moved}
-
-pub left_not_in : (now : Phase) → is_left now ≡ true → is_connected now ≡ true → ⊥
-left_not_in phase.Left left connected = absurd cc
-left_not_in phase.Joining left connected = absurd cc
-left_not_in phase.Connected left connected = absurd cc
+use Rattle.node_laws.proofs.InStep.{left_not_in, phase_moved}
 
 passed_sent : (number : ℕ) (st : Status) → is_uncommitted st ≡ false
     → is_uncommitted (passed_status number st) ≡ false

@@ -36,7 +36,7 @@ use Rattle.node_laws.proofs.ClusterMoves.{Stepped, Still, Moved, Ordered, Left, 
 
 -- ---- one node takes another's place
 -- what is found is the new one, or was there
-data Found (nodes : List ModelNode) (i : ℕ) (new : ModelNode) (j : ℕ) (n : ModelNode) : Type 0 where
+pub data Found (nodes : List ModelNode) (i : ℕ) (new : ModelNode) (j : ℕ) (n : ModelNode) : Type 0 where
   New : j ≡ i → new ≡ n → Found nodes i new j n
   Old : (j ≡ i → ⊥) → slice_get nodes j ≡ Some n → Found nodes i new j n
 
@@ -44,7 +44,7 @@ later : (x : ModelNode) (xs : List ModelNode) (i j : ℕ) (new n : ModelNode) �
 later x xs i j new n (New here is) = New (ap suc here) is
 later x xs i j new n (Old beside there) = Old (λ same. beside (omega (arith, same))) there
 
-found : (nodes : List ModelNode) (i : ℕ) (new : ModelNode) (j : ℕ) (n : ModelNode) → slice_get (set_at nodes i new) j ≡ Some n → Found nodes i new j n
+pub found : (nodes : List ModelNode) (i : ℕ) (new : ModelNode) (j : ℕ) (n : ModelNode) → slice_get (set_at nodes i new) j ≡ Some n → Found nodes i new j n
 found [] i new j n there = cc
 found (x ∷ xs) zero new zero n there = New refl (same_Some new n there)
 found (x ∷ xs) zero new (suc j) n there = Old (λ same. omega (arith, same)) there
@@ -374,16 +374,16 @@ start_sizes id (m ∷ ms) =
     omega (arith, len-empty nat_cmp Live, rest)
 
 -- the node at a place is that of the member there
-record StartsAt (id : List ℕ) (members : List ℕ) (i : ℕ) (n : ModelNode) : Type 0 where
-  member : ℕ
-  there : slice_get members i ≡ Some member
-  is : start_node id member ≡ n
+pub record StartsAt (id : List ℕ) (members : List ℕ) (i : ℕ) (n : ModelNode) : Type 0 where
+  pub member : ℕ
+  pub there : slice_get members i ≡ Some member
+  pub is : start_node id member ≡ n
 
 starts_later : (id : List ℕ) (m : ℕ) (ms : List ℕ) (i : ℕ) (n : ModelNode) → StartsAt id ms i n
     → StartsAt id (m ∷ ms) (suc i) n
 starts_later id m ms i n s = record { member = s.member; there = s.there; is = s.is }
 
-starts_at : (id : List ℕ) (members : List ℕ) (i : ℕ) (n : ModelNode)
+pub starts_at : (id : List ℕ) (members : List ℕ) (i : ℕ) (n : ModelNode)
     → slice_get (map (start_node id) members) i ≡ Some n → StartsAt id members i n
 starts_at id [] i n there = cc
 starts_at id (m ∷ ms) zero n there = record { member = m; there = refl; is = same_Some (start_node id m) n there }

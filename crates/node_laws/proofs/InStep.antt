@@ -11,7 +11,9 @@ use Rattle.order_event.specs.declared.event.Event.TheVariants as event
 use Rattle.order_event.specs.declared.event.Message.{Message}
 use Rattle.order_event.specs.declared.event.Message.TheVariants as message
 use Rattle.group_order.specs.Order.{event_of}
-use Rattle.node_meaning.specs.Node.{ModelNode}
+use Rattle.node_meaning.specs.declared.progress.Phase.{Phase}
+use Rattle.node_meaning.specs.declared.progress.Phase.TheVariants as phase
+use Rattle.node_meaning.specs.Node.{ModelNode, is_left, is_connected}
 use Rattle.node_meaning.specs.Steps.{is_write, is_report, without_first, is_this_write, unqueued}
 use Rattle.node_meaning.proofs.CertifyFacts.{drop_one}
 use Rattle.node_laws.proofs.Moves.{Kind, Move, Orders, Leaves, Takes, May, Reaches, kept}
@@ -126,3 +128,23 @@ pub phase_reached : (order : List Event) (given : Type 0) (works : Bool) (n : Mo
 phase_reached order given works n k m row =
     kept (λ o. o.at.phase ≡ n.at.phase)
     (λ o kind q may move h. phase_moved order given works o kind q may move ∙ h) n k m row refl
+
+pub left_not_in : (now : Phase) → is_left now ≡ true → is_connected now ≡ true → ⊥
+left_not_in phase.Left left connected = absurd cc
+left_not_in phase.Joining left connected = absurd cc
+left_not_in phase.Connected left connected = absurd cc
+
+-- out of it, it takes nothing
+taken_moved : (order : List Event) (given : Type 0) (n : ModelNode) (kind : Kind) (m : ModelNode)
+    → Move order given n kind m → is_left n.at.phase ≡ true → m.at.taken ≡ n.at.taken
+taken_moved order given n kind m (Takes e ordered there leaves) left =
+    absurd (left_not_in n.at.phase left leaves.connected)
+taken_moved order given n kind m _ left = refl
+
+pub taken_reached : (order : List Event) (given : Type 0) (works : Bool) (n : ModelNode) (k : ℕ) (m : ModelNode)
+    → Reaches order given works n k m → is_left n.at.phase ≡ true → m.at.taken ≡ n.at.taken
+taken_reached order given works n k m row left =
+    (kept (λ o. (is_left o.at.phase ≡ true) × (o.at.taken ≡ n.at.taken))
+    (λ o kind q may move h.
+    (ap is_left (phase_moved order given works o kind q may move) ∙ h.0, taken_moved order given o kind q move h.0 ∙ h.1))
+    n k m row (left, refl)).1

@@ -24,5 +24,7 @@ pub mod Waiting
 pub mod InStep
 pub mod Cleared
 pub mod ClusterLaws
+pub mod ViewLists
+pub mod Views
 pub mod StartedUnits
 pub mod GivenLaws
