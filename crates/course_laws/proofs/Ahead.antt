@@ -17,6 +17,7 @@ use Rattle.client_trx.specs.Live.{Live, is_sent, judged_by}
 use Rattle.client_trx.specs.declared.status.Outcome.{Outcome}
 use Rattle.client_trx.specs.declared.status.Outcome.TheVariants.{Lives, Ends}
 use Rattle.node_meaning.specs.declared.progress.Progress.{Progress}
+use Rattle.node_meaning.specs.declared.progress.Phase.TheVariants as phase
 use Rattle.node_meaning.specs.Node.{ModelNode}
 use Rattle.node_meaning.specs.Steps.{told, session_of, told_verdict, told_own, told_event, certify_event, certify_step, take_step}
 use Rattle.node_laws.proofs.Moves.{with_certified, with_taken}
@@ -29,7 +30,7 @@ use Rattle.course_laws.proofs.Certifying.{own_decided}
 use Rattle.course_laws.proofs.PendingSets.{own_next}
 use Rattle.course_laws.proofs.StageMoved.{first_event}
 use Rattle.course_laws.proofs.Taking.{taken}
-use Rattle.course_laws.proofs.Following.{Follows, AllKeep, still_follows}
+use Rattle.course_laws.proofs.Following.{Follows, stayed, still_follows}
 
 -- ---- a node that is told a verdict stays in its place
 at_told : (n : ModelNode) (s : ℕ) (o : Outcome) (t : Live) → (told n s (o, t)).at ≡ n.at
@@ -88,7 +89,7 @@ DecidedAt order member before body =
     (w : WriteSet) × (decoded body ≡ Some w)
     × IsByConflict (rules.verdict (state_at order before) member w)
 
-module _ (order : List Event) (member : ℕ) (keeps : AllKeep order member) where
+module _ (order : List Event) (member : ℕ) where
   -- ---- all is taken
   record AllTaken (certified : ℕ) : Type 0 where
     node : ModelNode
@@ -96,18 +97,19 @@ module _ (order : List Event) (member : ℕ) (keeps : AllKeep order member) wher
     place : node.at.certified ≡ certified
     all : node.at.taken ≡ length order
 
-  take_all : (k : ℕ) (n : ModelNode) → n.at.taken + k ≡ length order → Follows order member n
-      → AllTaken n.at.certified
-  take_all zero n place h =
+  take_all : (k : ℕ) (n : ModelNode) → n.at.taken + k ≡ length order
+      → n.at.phase ≡ phase.Connected → Follows order member n → AllTaken n.at.certified
+  take_all zero n place connected h =
       record { node = n; follows = h; place = refl; all = omega (arith, place) }
-  take_all (suc k) n place h =
+  take_all (suc k) n place connected h =
+      let s = stayed order n connected h.place in
       let e = some_there order n.at.taken (omega (arith, place)) in
-      let t = taken order n h.in_step h.connected e.0 e.1 in
-      let one = still_follows order member keeps (Unit {0}) tt n (take_step order n).1
+      let t = taken order n s.in_step s.connected e.0 e.1 in
+      let one = still_follows order member (Unit {0}) tt n (take_step order n).1
       (take_moves order (Unit {0}) true n) h in
       let next : Follows order member (with_taken n t.ordered) =
       subst (λ (x : Answer × ModelNode). Follows order member x.1) t.is one in
-      take_all k (with_taken n t.ordered) (omega (arith, place)) next
+      take_all k (with_taken n t.ordered) (omega (arith, place)) connected next
 
   -- ---- and certified up to there
   decided_here : (n : ModelNode) (body : List ℕ) → n.at.certified == n.at.taken ≡ false
@@ -150,15 +152,16 @@ module _ (order : List Event) (member : ℕ) (keeps : AllKeep order member) wher
       ap (λ (x : Progress). x.taken) at in
       decided_from k (certify_step order n).1 before body (omega (arith, certified, place))
       (taken_is ∙ all) there
-      (still_follows order member keeps (Unit {0}) tt n (certify_step order n).1
+      (still_follows order member (Unit {0}) tt n (certify_step order n).1
       (certify_moves order (Unit {0}) true n) h)
 
-  -- each write set of the member behind what it certified
-  pub decided_ahead : (n : ModelNode) → Follows order member n → (before : ℕ) (body : List ℕ)
-      → n.at.certified ≤ before → slice_get order before ≡ Some (event.Write member body)
+  -- each write set of the member behind what its node, which is connected, certified
+  pub decided_ahead : (n : ModelNode) → n.at.phase ≡ phase.Connected → Follows order member n
+      → (before : ℕ) (body : List ℕ) → n.at.certified ≤ before
+      → slice_get order before ≡ Some (event.Write member body)
       → DecidedAt order member before body
-  decided_ahead n h before body above there =
+  decided_ahead n connected h before body above there =
       let fits = h.facts.in_order.taken_fits in
-      let all = take_all (length order - n.at.taken) n (omega (arith, fits)) h in
+      let all = take_all (length order - n.at.taken) n (omega (arith, fits)) connected h in
       decided_from (before - n.at.certified) all.node before body
       (omega (arith, above, all.place)) all.all there all.follows

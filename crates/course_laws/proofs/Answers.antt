@@ -16,8 +16,9 @@ use Rattle.node_meaning.specs.declared.progress.Stage.{Stage}
 use Rattle.node_meaning.specs.declared.progress.Stage.TheVariants.{Started, Finished}
 use Rattle.node_meaning.specs.Node.{ModelNode, ApplyUnit, is_left, is_joining, ahead, passed_at}
 use Rattle.node_meaning.specs.Steps.{is_local, touching_before, certify_event, certify_step, start_after, start_unit, start_step, finish_stage, finish_unit, finish_step, is_ready, committed_next, advance_step, put_report, report_step}
-use Rattle.node_meaning.specs.Cluster.{ModelCluster, start_cluster, order_first, step_of, step_at, cluster_step, run}
-use Rattle.node_laws.proofs.ClusterLaws.{ActFits}
+use Rattle.node_meaning.specs.Cluster.{ModelCluster, start_cluster, order_first, step_of, step_at, cluster_step, run, leave_now}
+use Rattle.node_meaning.specs.Status.{status_step}
+use Rattle.node_laws.specs.Fits.{ActFits}
 use Rattle.node_laws.proofs.SetLists.{all_push}
 use Rattle.course_laws.specs.Laws.{NoSplit, RunsNeverSplit}
 use Rattle.course_laws.proofs.Runs.{runs_are_lawful}
@@ -82,6 +83,10 @@ module _ (order : List Event) (n : ModelNode) where
       (either_by (is_ready order n (n.at.committed + 1)) (answer.At number, committed_next n number)
       (answer.NotReady number, n) refl refl)
 
+status_whole : (order : List Event) (n : ModelNode) → is_split (status_step order n).0 ≡ false
+unfolding status_step
+status_whole order n = refl
+
 report_whole : (n : ModelNode) → is_split (report_step n).0 ≡ false
 unfolding report_step
 report_whole n =
@@ -99,6 +104,11 @@ module _ (c : ModelCluster) (i : ℕ) (n : ModelNode) (whole : NoSplit c.order n
   first_by [] = refl
   first_by (m ∷ ms) = refl
 
+  leave_by : (b : Bool)
+      → is_split (cond b (answer.Disconnected, c) (leave_now c i n)).0 ≡ false
+  leave_by true = refl
+  leave_by false = refl
+
   step_whole : (a : Act) → (step_of c i n a).0 ≡ answer.Split → ⊥
   step_whole (act.Client session call) = not_split _ refl
   step_whole act.Order = not_split _ (first_by n.outbox)
@@ -109,8 +119,8 @@ module _ (c : ModelCluster) (i : ℕ) (n : ModelNode) (whole : NoSplit c.order n
   step_whole act.Advance = not_split _ (advance_whole c.order n)
   step_whole act.Drain = not_split _ refl
   step_whole act.Report = not_split _ (report_whole n)
-  step_whole act.Status = not_split _ refl
-  step_whole act.Leave = not_split _ refl
+  step_whole act.Status = not_split _ (status_whole c.order n)
+  step_whole act.Leave = not_split _ (leave_by (is_left n.at.phase))
   step_whole (act.Join fresh) = not_split _ refl
   step_whole (act.Transfer donor) = not_split _ refl
 

@@ -32,7 +32,7 @@ use Rattle.node_laws.proofs.Moves.{IsJudged, verdict_next, MayCertify, with_cert
 use Rattle.node_laws.proofs.SetLists.{equal, unequal, of-first}
 use Rattle.node_laws.proofs.Lining.{elsewhere}
 use Rattle.node_laws.proofs.Heads.{head_waits}
-use Rattle.node_laws.proofs.InStep.{message_of}
+use Rattle.node_laws.specs.InStep.{message_of}
 use Rattle.node_laws.proofs.SentMoved.{certifies_pending}
 use Rattle.course_laws.specs.Laws.{IsByConflict}
 use Rattle.course_laws.specs.Ordered.{pending_sets, seen_ahead, Rises, HasSent, GoesOn, Entered, OrderedFacts, Keeps}

@@ -1,54 +1,53 @@
 -- Along every course of a node from its start, what holds of the node over the order so far is
--- kept, and so are the laws.
-use Rattle.std.proofs.Common.{◌≡◌, ℕ, zero, suc, ◌+◌, ◌≤◌, ◌<◌, ◌^◌, Bool, true, false, cond, List, [], ◌∷◌, ◌++◌, length, Some, refl, ap, sym, subst, ◌∙◌, arith, append-nil, length-append, eq-eqb, true≢false}
+-- kept.
+use Rattle.std.proofs.Common.{◌≡◌, ℕ, zero, suc, ◌+◌, ◌≤◌, ◌<◌, ◌^◌, Bool, true, false, cond, List, [], ◌∷◌, ◌++◌, length, refl, ap, sym, subst, ◌∙◌, arith, append-nil, length-append, eq-eqb, true≢false}
 use Rattle.std.specs.Prelude.{◌==◌, ◌||◌, map}
 use Rattle.std.specs.List.{AllByRecursion, list_any}
 use Rattle.std.specs.Ordering.{nat_cmp}
 use Rattle.std.proofs.lemmas.Option.{same_Some}
 use Rattle.finite_map.specs.FiniteMap.{len, get-empty, len-empty}
-use Rattle.wsrep_base.specs.declared.ids.TrxId.{TrxId}
 use Rattle.order_event.specs.declared.event.Event.{Event}
 use Rattle.order_event.specs.declared.event.Event.TheVariants as event
 use Rattle.order_event.specs.declared.event.Message.{Message}
 use Rattle.order_event.specs.declared.step.Act.{Act}
 use Rattle.order_event.specs.declared.step.Act.TheVariants as act
-use Rattle.group_order.specs.Order.{event_of, start_order, up_to}
-use Rattle.write_set.specs.declared.write_set.WriteSet.{WriteSet}
-use Rattle.cert_meaning.specs.Verdict as rules
-use Rattle.cert_meaning.specs.Fold.{state_at}
-use Rattle.client_trx.specs.Live.{Live, is_sent}
-use Rattle.client_trx.specs.declared.status.Status.{Status}
-use Rattle.client_trx.specs.declared.status.Status.TheVariants as status
-use Rattle.node_meaning.specs.Node.{ModelNode, start_node}
+use Rattle.group_order.specs.Order.{event_of, start_order, up_to, view_without, last_view}
+use Rattle.client_trx.specs.Live.{Live}
+use Rattle.node_meaning.specs.Node.{ModelNode, start_node, is_left}
 use Rattle.node_meaning.specs.Steps.{first_sent, node_step, drained, take_step, certify_step, start_step, finish_step, advance_step, report_step}
 use Rattle.node_meaning.specs.Client.{client}
-use Rattle.node_meaning.specs.Facts.{ProgressInRange, IsUndecided, HasFailed, Alone, One, Lost, StandsBy, IsFragmentOf, IsCommitOf, sets_of}
+use Rattle.node_meaning.specs.Facts.{ProgressInRange}
 use Rattle.node_meaning.proofs.EntryLaws.{some_not_none}
 use Rattle.node_meaning.proofs.StartNode.{start_facts}
+use Rattle.node_meaning.specs.Status.{status_step}
+use Rattle.node_meaning.specs.Leaving.{left_node}
+use Rattle.node_meaning.specs.declared.progress.Progress.{Progress}
 use Rattle.node_laws.proofs.Moves.{with_ordered, Reaches}
 use Rattle.node_laws.proofs.ClientMoves.{CanCall, client_moves}
 use Rattle.node_laws.proofs.TakeMoves.{take_moves}
 use Rattle.node_laws.proofs.CertifyMoves.{certify_moves}
 use Rattle.node_laws.proofs.UnitMoves.{CanTakeBack, start_moves, finish_moves}
-use Rattle.node_laws.proofs.ReportMoves.{report_moves}
+use Rattle.node_laws.proofs.ReportMoves.{report_moves, status_moves}
 use Rattle.node_laws.proofs.AdvanceMoves.{CanDrain, advance_moves, drained_moves}
 use Rattle.node_laws.proofs.Counts.{Grows, reach_grows}
-use Rattle.node_laws.proofs.ClusterLaws.{ActFits}
-use Rattle.course_laws.specs.Ordered.{pending_sets, Keeps, Early}
-use Rattle.course_laws.specs.Courses.{Course, Happens, Others, Does, first_event, does, next, course, IsOfOthers, Fits, AllFit, start_course}
-use Rattle.course_laws.specs.Laws.{IsByConflict, OwnAreDecided, NoneFailed, NodeLaws, CoursesAreLawful}
-use Rattle.course_laws.proofs.Placing.{conflict_not}
-use Rattle.course_laws.proofs.PendingSets.{sets_lined, within_order}
-use Rattle.course_laws.proofs.Taking.{no_split}
+use Rattle.node_laws.specs.Fits.{ActFits}
+use Rattle.node_laws.proofs.Leaving.{left_at, left_grows}
+use Rattle.node_laws.proofs.LeftSets.{front_none}
+use Rattle.course_laws.specs.Ordered.{Keeps, Early}
+use Rattle.course_laws.specs.Courses.{Course, Happens, Others, Does, first_event, does, next, course, IsOfOthers, Fits, AllFit, start_course, leave_over}
+use Rattle.course_laws.specs.Laws.{OwnAreDecided, NoneBehind}
+use Rattle.course_laws.proofs.PendingSets.{within_order}
 use Rattle.course_laws.proofs.Ahead.{write_not_view}
-use Rattle.course_laws.proofs.Following.{Follows, AllKeep, still_follows, client_follows, report_follows}
-use Rattle.course_laws.proofs.Growing.{others_all_keep, others_follows, own_all_keep, own_follows, decided_grown}
+use Rattle.course_laws.proofs.Following.{Follows, AllKeep, still_follows, client_follows, report_follows, HasStayed, Place, Inside, Outside, status_follows}
+use Rattle.course_laws.proofs.Growing.{others_follows, own_all_keep, own_follows, decided_grown, AreSilent, others_silent, decided_still, none_behind_kept, none_behind_grown}
+use Rattle.course_laws.proofs.Viewed.{without_itself}
+use Rattle.course_laws.proofs.Leaving.{left_follows}
 
 -- what is kept of a node that made fewer than so many steps
 pub record Kept (member most : ℕ) (order : List Event) (n : ModelNode) : Type 0 where
   pub follows : Follows order member n
-  pub keeps : AllKeep order member
   pub decided : OwnAreDecided order member
+  pub none_behind : NoneBehind order member
   pub serial : n.at.serial + len n.live ≤ most
   pub begin : n.at.begin ≤ most
 
@@ -76,8 +75,8 @@ module _ (member most : ℕ) (small : member < 2 ^ 32) (few : most ≤ 2 ^ 63) w
     moved : (m : ModelNode) → Grows 1 n m → Follows order member m → Kept member (most + 1) order m
     moved m grows follows = record {
       follows = follows;
-      keeps = h.keeps;
       decided = h.decided;
+      none_behind = h.none_behind;
       serial = omega (arith, h.serial, grows.serial);
       begin = omega (arith, h.begin, grows.begin);
     }
@@ -95,13 +94,13 @@ module _ (member most : ℕ) (small : member < 2 ^ 32) (few : most ≤ 2 ^ 63) w
         → Kept member (most + 1) order m
     by_row given g m row =
         moved m (grows_zero m (reach_grows order given true n 0 m row))
-        (still_follows order member h.keeps given g n m row h.follows)
+        (still_follows order member given g n m row h.follows)
 
     same_kept : Kept member (most + 1) order n
     same_kept = record {
       follows = h.follows;
-      keeps = h.keeps;
       decided = h.decided;
+      none_behind = h.none_behind;
       serial = omega (arith, h.serial);
       begin = omega (arith, h.begin);
     }
@@ -113,7 +112,7 @@ module _ (member most : ℕ) (small : member < 2 ^ 32) (few : most ≤ 2 ^ 63) w
         moved (client order n session call).1
         (reach_grows order (CanCall n call) true n 1 (client order n session call).1
         (client_moves order true n session call))
-        (client_follows order member h.keeps n session call can h.follows)
+        (client_follows order member n session call can h.follows)
     step_kept act.Take fits = by_row (Unit {0}) tt (take_step order n).1 (take_moves order _ true n)
     step_kept act.Certify fits =
         by_row (Unit {0}) tt (certify_step order n).1 (certify_moves order _ true n)
@@ -129,8 +128,11 @@ module _ (member most : ℕ) (small : member < 2 ^ 32) (few : most ≤ 2 ^ 63) w
     step_kept act.Report fits =
         moved (report_step n).1
         (reach_grows order (Unit {0}) true n 1 (report_step n).1
-        (report_moves order (Unit {0}) true n)) (report_follows order member h.keeps n h.follows)
-    step_kept act.Status fits = same_kept
+        (report_moves order (Unit {0}) true n)) (report_follows order member n h.follows)
+    step_kept act.Status fits =
+        moved (status_step order n).1
+        (reach_grows order (Unit {0}) true n 1 (status_step order n).1
+        (status_moves order (Unit {0}) true n)) (status_follows order member n h.follows)
     step_kept act.Leave fits = same_kept
     step_kept (act.Join fresh) fits = same_kept
     step_kept (act.Transfer donor) fits = same_kept
@@ -140,37 +142,93 @@ module _ (member most : ℕ) (small : member < 2 ^ 32) (few : most ≤ 2 ^ 63) w
     inside : n.at.certified ≤ length order
     inside = within_order order n h.follows.facts
 
-    others_kept : (events : List Event) → AllByRecursion (IsOfOthers member) events
+    others_kept : (events : List Event)
+        → AllByRecursion (IsOfOthers n.at.member (is_left n.at.phase)) events
         → Kept member (most + 1) (order ++ events) n
     others_kept events all =
-        let keeps = others_all_keep order member events all h.keeps in
-        let follows = others_follows order member n events all h.follows in record {
-          follows = follows;
-          keeps = keeps;
-          decided = decided_grown order events member n h.decided inside keeps follows;
+        let silent = subst (λ k. AreSilent k events) h.follows.home
+        (others_silent n.at.member (is_left n.at.phase) events all) in record {
+          follows = others_follows order member n events all h.follows;
+          decided = decided_still order events member h.decided silent;
+          none_behind = none_behind_grown order events member h.none_behind silent;
           serial = omega (arith, h.serial);
           begin = omega (arith, h.begin);
         }
 
-    own_kept : (front back : List Message) → n.outbox ≡ front ++ back
+    sent_kept : (front back : List Message) → n.outbox ≡ front ++ back → HasStayed order n
         → Kept member (most + 1) (order ++ map (event_of member) front) (with_ordered n front back)
-    own_kept front back is =
-        let keeps = own_all_keep order member front h.keeps in
-        let follows = own_follows order member n front back is h.follows in record {
+    sent_kept front back is s =
+        let follows = own_follows order member n front back is s.connected h.follows in
+        let keeps = subst (AllKeep order) h.follows.home s.keeps in record {
           follows = follows;
-          keeps = keeps;
           decided = decided_grown order (map (event_of member) front) member
-              (with_ordered n front back) h.decided inside keeps follows;
+              (with_ordered n front back) h.decided inside s.connected follows;
+          none_behind = none_behind_kept (order ++ map (event_of member) front) member
+              (own_all_keep order member front keeps);
           serial = omega (arith, h.serial);
           begin = omega (arith, h.begin);
         }
+
+    nothing_kept : n.outbox ≡ []
+        → Kept member (most + 1) (order ++ []) (with_ordered n [] [])
+    nothing_kept none =
+        let same : with_ordered n [] [] ≡ n =
+        λ i. record n { ordered = append-nil n.ordered i; outbox = sym none i } in
+        subst (Kept member (most + 1) (order ++ [])) (sym same) (others_kept [] tt)
+
+    own_kept : (front back : List Message) → n.outbox ≡ front ++ back → Place order n
+        → Kept member (most + 1) (order ++ map (event_of member) front) (with_ordered n front back)
+    own_kept front back is (Inside s) = sent_kept front back is s
+    own_kept front back is (Outside g) =
+        let none = g.cleared.none_waits in
+        let first : front ≡ [] = front_none front back (sym is ∙ none) in
+        let last : back ≡ [] = ap (λ f. f ++ back) (sym first) ∙ sym is ∙ none in
+        subst (λ b. Kept member (most + 1) (order ++ map (event_of member) front)
+        (with_ordered n front b)) (sym last)
+        (subst (λ f. Kept member (most + 1) (order ++ map (event_of member) f)
+        (with_ordered n f [])) (sym first) (nothing_kept none))
 
     first_kept : (queue : List Message) → n.outbox ≡ queue
         → Kept member (most + 1) (order ++ first_event n queue) (first_sent n queue)
     first_kept [] is = others_kept [] tt
     first_kept (m ∷ ms) is =
         subst (λ k. Kept member (most + 1) (order ++ event_of k m ∷ [])
-        (with_ordered n (m ∷ []) ms)) (sym h.follows.home) (own_kept (m ∷ []) ms is)
+        (with_ordered n (m ∷ []) ms)) (sym h.follows.home)
+        (own_kept (m ∷ []) ms is h.follows.place)
+
+    -- a node in its group leaves
+    view_of_others : IsOfOthers (left_node n).at.member (is_left (left_node n).at.phase)
+        (view_without order n.at.member)
+    view_of_others =
+        subst (λ (at : Progress). IsOfOthers at.member (is_left at.phase)
+        (view_without order n.at.member)) (sym (left_at n))
+        (without_itself n.at.member (last_view order).1)
+
+    left_kept : HasStayed order n
+        → Kept member (most + 1) (order ++ view_without order n.at.member ∷ []) (left_node n)
+    left_kept s =
+        let more = view_without order n.at.member ∷ [] in record {
+          follows = others_follows order member (left_node n) more (view_of_others, tt)
+              (left_follows order member n s h.follows);
+          decided = decided_still order more member h.decided (refl, tt);
+          none_behind = none_behind_grown order more member h.none_behind (refl, tt);
+          serial = omega (arith, h.serial, (left_grows n).serial);
+          begin = omega (arith, h.begin, (left_grows n).begin);
+        }
+
+    stays_by : is_left n.at.phase ≡ false → Place order n → HasStayed order n
+    stays_by stays (Inside s) = s
+    stays_by stays (Outside g) = absurd (true≢false (sym (ap is_left g.left) ∙ stays))
+
+    abbrev so_far : Course
+    so_far = record { order = order; node = n }
+
+    leave_kept : (b : Bool) → is_left n.at.phase ≡ b
+        → Kept member (most + 1) (cond b so_far (leave_over so_far)).order
+        (cond b so_far (leave_over so_far)).node
+    leave_kept true is =
+        subst (λ o. Kept member (most + 1) o n) (append-nil order) (others_kept [] tt)
+    leave_kept false is = left_kept (stays_by is h.follows.place)
 
     drain_kept : length (order ++ map (event_of n.at.member) n.outbox) ≤ 2 ^ 63
         → Kept member (most + 1) (order ++ map (event_of n.at.member) n.outbox)
@@ -180,7 +238,7 @@ module _ (member most : ℕ) (small : member < 2 ^ 32) (few : most ≤ 2 ^ 63) w
         let sent = with_ordered n n.outbox [] in
         let k = subst (λ k. Kept member (most + 1) (order ++ map (event_of k) n.outbox)
         (with_ordered n n.outbox [])) (sym h.follows.home)
-        (own_kept n.outbox [] (sym (append-nil n.outbox))) in
+        (own_kept n.outbox [] (sym (append-nil n.outbox)) h.follows.place) in
         let can : CanDrain longer sent = record {
           member = subst (λ j. j < 2 ^ 32) (sym h.follows.home) small;
           events = omega (arith, short);
@@ -190,10 +248,10 @@ module _ (member most : ℕ) (small : member < 2 ^ 32) (few : most ≤ 2 ^ 63) w
         let row = drained_moves longer (CanDrain longer sent) sent (λ g. g) in
         let grows = reach_grows longer (CanDrain longer sent) true sent 0 (drained longer sent)
         row in record {
-          follows = still_follows longer member k.keeps (CanDrain longer sent) can sent
+          follows = still_follows longer member (CanDrain longer sent) can sent
               (drained longer sent) row k.follows;
-          keeps = k.keeps;
           decided = k.decided;
+          none_behind = k.none_behind;
           serial = omega (arith, h.serial, grows.serial);
           begin = omega (arith, h.begin, grows.begin);
         }
@@ -214,7 +272,8 @@ module _ (member most : ℕ) (small : member < 2 ^ 32) (few : most ≤ 2 ^ 63) w
   does_kept c h act.Advance fits short = step_kept c.order c.node h short act.Advance fits
   does_kept c h act.Report fits short = step_kept c.order c.node h short act.Report fits
   does_kept c h act.Status fits short = step_kept c.order c.node h short act.Status fits
-  does_kept c h act.Leave fits short = step_kept c.order c.node h short act.Leave fits
+  does_kept c h act.Leave fits short =
+      leave_kept c.order c.node h (is_left c.node.at.phase) refl
   does_kept c h (act.Join fresh) fits short =
       step_kept c.order c.node h short (act.Join fresh) fits
   does_kept c h (act.Transfer donor) fits short =
@@ -224,17 +283,21 @@ module _ (member most : ℕ) (small : member < 2 ^ 32) (few : most ≤ 2 ^ 63) w
       → length (next c x).order ≤ 2 ^ 63
       → Kept member (most + 1) (next c x).order (next c x).node
   next_kept c h (Others events) fits short =
-      others_kept c.order c.node h events
-      (subst (λ k. AllByRecursion (IsOfOthers k) events) h.follows.home fits)
+      others_kept c.order c.node h events fits
   next_kept c h (Does a) fits short = does_kept c h a fits short
 
 -- ---- the order never gets shorter
 longer : (order more : List Event) → length order ≤ length (order ++ more)
 longer order more = omega (arith, length-append order more)
 
+leave_longer : (c : Course) (b : Bool) → length c.order ≤ length (cond b c (leave_over c)).order
+leave_longer c true = omega arith
+leave_longer c false = longer c.order (view_without c.order c.node.at.member ∷ [])
+
 does_longer : (c : Course) (a : Act) → length c.order ≤ length (does c a).order
 does_longer c act.Order = longer c.order (first_event c.node c.node.outbox)
 does_longer c act.Drain = longer c.order (map (event_of c.node.at.member) c.node.outbox)
+does_longer c act.Leave = leave_longer c (is_left c.node.at.phase)
 does_longer c _ = omega arith
 
 next_longer : (c : Course) (x : Happens) → length c.order ≤ length (next c x).order
@@ -320,9 +383,8 @@ module _ (nodes member : ℕ) (id : List ℕ)
   start_kept = record {
     follows = record {
       home = refl;
-      connected = refl;
       facts = start_facts (start_order nodes) id member;
-      in_step = refl;
+      place = Inside (record { connected = refl; in_step = refl; keeps = start_keeps });
       stage = Early (record {
         none = refl;
         first = refl;
@@ -336,53 +398,10 @@ module _ (nodes member : ℕ) (id : List ℕ)
         has = has;
       });
     };
-    keeps = start_keeps;
     decided = start_decided;
+    none_behind = none_behind_kept (start_order nodes) member start_keeps;
     serial = omega (arith, len-empty nat_cmp Live);
     begin = omega arith;
-  }
-
--- ---- the laws
-module _ (member most : ℕ) (order : List Event) (n : ModelNode) (h : Kept member most order n) where
-  pub none_failed : NoneFailed order n
-  none_failed trx own failed =
-      let home : trx.member ≡ member = own ∙ h.follows.home in
-      let was = h.decided failed.before failed.body
-      (failed.there ∙ ap (λ k. Some (event.Write k failed.body)) home) in
-      let same : was.0 ≡ failed.set = same_Some was.0 failed.set (sym was.1 ∙ failed.is) in
-      conflict_not (rules.verdict (state_at order failed.before) member failed.set)
-      (subst (λ w. IsByConflict (rules.verdict (state_at order failed.before) member w)) same was.2)
-      (subst (λ k. IsUndecided (rules.verdict (state_at order failed.before) k failed.set)) home
-      failed.undecided)
-
-  alone_once : (P : WriteSet → Type 0) (trx : TrxId) (mine : List WriteSet)
-      → trx.member ≡ n.at.member → Alone P (HasFailed order n.at.certified trx) mine
-      → length mine ≡ 1
-  alone_once P trx mine own (One w is here) = ap length is
-  alone_once P trx mine own (Lost none failed) = absurd (none_failed trx own failed)
-
-  once_by : (t : Live) (mine : List WriteSet) → t.trx.member ≡ n.at.member → (st : Status)
-      → StandsBy order n.at.committed n.at.certified mine t st
-      → length mine ≡ cond (is_sent st) 1 0
-  once_by t mine own status.Running s = ap length s.0
-  once_by t mine own status.FragmentSent s =
-      alone_once (IsFragmentOf (state_at order n.at.certified) t) t.trx mine own s
-  once_by t mine own status.CommitSent s =
-      alone_once (IsCommitOf (state_at order n.at.certified) t) t.trx mine own s
-  once_by t mine own (status.Certified number) s = ap length s.0
-  once_by t mine own status.KilledSent s =
-      alone_once (IsCommitOf (state_at order n.at.certified) t) t.trx mine own s
-  once_by t mine own (status.Replaying number) s = ap length s.0
-
-  pub kept_laws : NodeLaws order n
-  kept_laws = record {
-    decided = subst (OwnAreDecided order) (sym h.follows.home) h.decided;
-    whole = no_split order n h.follows.in_step h.follows.connected;
-    in_step = h.follows.in_step;
-    once = λ se t there.
-        let live = (sets_lined order n h.follows.facts).each se t there in
-        once_by t (sets_of t.trx.begin (pending_sets order n)) live.of_member t.status live.stands;
-    none_failed = none_failed;
   }
 
 -- ---- from a start
@@ -395,10 +414,3 @@ pub from_start : (nodes member : ℕ) (id : List ℕ) (happens : List Happens)
 from_start nodes member id happens above below small fits few short =
     course_kept member 1 small (start_course nodes id member) happens (omega (arith, few)) fits
     short (start_kept nodes member id (is_numbered nodes member above below))
-
--- the laws hold at the end of every course from a start
-pub courses_are_lawful : CoursesAreLawful
-courses_are_lawful nodes member id happens above below small fits few short =
-    let c = course (start_course nodes id member) happens in
-    kept_laws member (1 + length happens) c.order c.node
-    (from_start nodes member id happens above below small fits few short)

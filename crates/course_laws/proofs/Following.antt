@@ -1,6 +1,7 @@
--- Rows of moves keep what holds of a node over the order so far, and a client call is such a row.
-use Rattle.std.proofs.Common.{◌≡◌, ℕ, ◌≤◌, Bool, true, false, List, Option, Some, None, refl, sym, subst, ◌∙◌, arith, ltb-false, true≢false}
-use Rattle.std.specs.Prelude.{◌||◌, slice_get, nat_lt}
+-- Rows of moves keep what holds of a node over the order so far, in its group or left; and a client
+-- call is such a row.
+use Rattle.std.proofs.Common.{◌≡◌, ℕ, ◌≤◌, Bool, true, false, List, Option, Some, None, refl, sym, subst, ◌∙◌, arith, ltb-false, true≢false, ap, ◌<◌}
+use Rattle.std.specs.Prelude.{◌||◌, slice_get, nat_lt, ◌==◌}
 use Rattle.finite_map.specs.FiniteMap.{get}
 use Rattle.row_model.specs.declared.calls.Call.{Call}
 use Rattle.row_model.specs.declared.calls.Reply.{Reply}
@@ -9,35 +10,56 @@ use Rattle.order_event.specs.declared.event.Event.{Event}
 use Rattle.order_event.specs.declared.step.Answer.TheVariants as answer
 use Rattle.client_trx.specs.Live.{Live}
 use Rattle.node_meaning.specs.declared.progress.Phase.TheVariants as phase
-use Rattle.node_meaning.specs.Node.{ModelNode, is_left, is_joining}
+use Rattle.node_meaning.specs.Node.{ModelNode, is_left, is_joining, is_connected}
 use Rattle.node_meaning.specs.Client.{is_pending, served, asked, told_first, client}
 use Rattle.node_meaning.specs.Steps.{put_report, report_step}
 use Rattle.node_meaning.specs.Facts.{Facts}
-use Rattle.node_laws.proofs.Moves.{Kind, Pays, Works, Quiet, Move, Tells, Advances, Commits, May, Reaches, Here, Quietly, Working, one, chosen, kept}
+use Rattle.node_meaning.proofs.EntryLaws.{less_from}
+use Rattle.node_meaning.specs.Status.{status_step}
+use Rattle.node_laws.proofs.Moves.{Kind, Pays, Works, Quiet, Move, Tells, Advances, Commits, May, Reaches, Here, Quietly, Working, one, chosen, kept, Leaves, Takes, cost, Paying, Joint}
 use Rattle.node_laws.proofs.ClientMoves.{CanCall, client_moves}
 use Rattle.node_laws.proofs.ReportMoves.{report_moves}
 use Rattle.node_laws.proofs.Counts.{move_grows}
 use Rattle.node_laws.proofs.FactsMoved.{facts_moved}
-use Rattle.node_laws.proofs.InStep.{IsInStep, in_step_moved}
+use Rattle.node_laws.specs.InStep.{IsInStep, IsCleared}
+use Rattle.node_laws.proofs.InStep.{in_step_moved, phase_moved}
+use Rattle.node_laws.proofs.Cleared.{cleared_reached}
 use Rattle.course_laws.specs.Ordered.{Keeps, Stage}
 use Rattle.course_laws.proofs.StageMoved.{stage_moved}
-
--- what holds of the node of a member
-pub record Follows (order : List Event) (member : ℕ) (n : ModelNode) : Type 0 where
-  pub home : n.at.member ≡ member
-  pub connected : n.at.phase ≡ phase.Connected
-  pub facts : Facts order n
-  pub in_step : IsInStep order n
-  pub stage : Stage order n
 
 -- all events keep the member
 abbrev pub AllKeep : List Event → ℕ → Type 0
 AllKeep order member = (j : ℕ) (e : Event) → slice_get order j ≡ Some e → Keeps member e
 
-phase_moved : (order : List Event) (given : Type 0) (n : ModelNode) (k : Kind) (m : ModelNode)
-    → Move order given n k m → m.at.phase ≡ n.at.phase
-phase_moved order given n k m (Tells s) = refl
-phase_moved order given n k m _ = refl
+-- a node in its group: its messages behind what it took are those that it had ordered, and all
+-- events keep its member
+pub record HasStayed (order : List Event) (n : ModelNode) : Type 0 where
+  pub connected : n.at.phase ≡ phase.Connected
+  pub in_step : IsInStep order n
+  pub keeps : AllKeep order n.at.member
+
+-- the first so many do
+abbrev pub FirstKeep : List Event → ℕ → ℕ → Type 0
+FirstKeep order member count =
+    (j : ℕ) (e : Event) → j < count → slice_get order j ≡ Some e → Keeps member e
+
+-- a node that left: nothing is queued, each live transaction has sent its commit, and all events
+-- that it took keep its member
+pub record HasLeft (order : List Event) (n : ModelNode) : Type 0 where
+  pub left : n.at.phase ≡ phase.Left
+  pub cleared : IsCleared n.ordered n.outbox n.live
+  pub keeps : FirstKeep order n.at.member n.at.taken
+
+pub data Place (order : List Event) (n : ModelNode) : Type 0 where
+  Inside : HasStayed order n → Place order n
+  Outside : HasLeft order n → Place order n
+
+-- what holds of the node of a member
+pub record Follows (order : List Event) (member : ℕ) (n : ModelNode) : Type 0 where
+  pub home : n.at.member ≡ member
+  pub facts : Facts order n
+  pub stage : Stage order n
+  pub place : Place order n
 
 pub synced_moved : (order : List Event) (given : Type 0) (n : ModelNode) (k : Kind) (m : ModelNode)
     → Move order given n k m → n.at.view ≤ n.at.committed → m.at.view ≤ m.at.committed
@@ -45,19 +67,67 @@ synced_moved order given n k m (Advances may none) h = omega (arith, h)
 synced_moved order given n k m (Commits s t may there is) h = omega (arith, h)
 synced_moved order given n k m _ h = h
 
-module _ (order : List Event) (member : ℕ) (keeps : AllKeep order member) (given : Type 0)
-    (g : given) where
+-- ---- the moves of a node that left
+-- a move is a row
+alone : (order : List Event) (given : Type 0) (n : ModelNode) (k : Kind) (m : ModelNode)
+    → May true k → Move order given n k m → Reaches order given true n (cost k) m
+alone order given n Pays m may move = Paying Here move
+alone order given n Works m may move = Working may Here move
+alone order given n Joint m may move = absurd may
+alone order given n Quiet m may move = Quietly Here move
+
+module _ (order : List Event) (given : Type 0) (n : ModelNode) (h : HasLeft order n) where
+  -- it takes nothing
+  keeps_moved : (k : Kind) (m : ModelNode) → May true k → Move order given n k m
+      → FirstKeep order m.at.member m.at.taken
+  keeps_moved k m may (Takes e ordered there leaves) =
+      absurd (true≢false (sym leaves.connected ∙ ap is_connected h.left))
+  keeps_moved k m may (Leaves stay) = absurd may
+  keeps_moved k m may _ = h.keeps
+
+  left_moved : (k : Kind) (m : ModelNode) → May true k → Move order given n k m → HasLeft order m
+  left_moved k m may move =
+      let left = phase_moved order given true n k m may move ∙ h.left in record {
+        left = left;
+        cleared = cleared_reached order given true n (cost k) m
+            (alone order given n k m may move) (λ _. h.cleared) (ap is_left left);
+        keeps = keeps_moved k m may move;
+      }
+
+-- ---- all moves
+module _ (order : List Event) (given : Type 0) (n : ModelNode) where
+  place_moved : (k : Kind) (m : ModelNode) → May true k → Move order given n k m
+      → Place order n → Place order m
+  place_moved k m may move (Inside h) = Inside (record {
+    connected = phase_moved order given true n k m may move ∙ h.connected;
+    in_step = in_step_moved order given true n k m may move h.in_step;
+    keeps = subst (AllKeep order) (sym (move_grows order given n k m move).member) h.keeps;
+  })
+  place_moved k m may move (Outside h) = Outside (left_moved order given n h k m may move)
+
+-- an event that is taken and not certified keeps the member
+keeps_next : (order : List Event) (n : ModelNode) → n.at.certified ≤ n.at.taken → Place order n
+    → (e : Event) → n.at.certified == n.at.taken ≡ false → slice_get order n.at.certified ≡ Some e
+    → Keeps n.at.member e
+keeps_next order n fits (Inside h) e more there = h.keeps n.at.certified e there
+keeps_next order n fits (Outside h) e more there =
+    h.keeps n.at.certified e (less_from n.at.certified n.at.taken fits more) there
+
+pub stayed : (order : List Event) (n : ModelNode) → n.at.phase ≡ phase.Connected → Place order n
+    → HasStayed order n
+stayed order n is (Inside h) = h
+stayed order n is (Outside h) = absurd (true≢false (sym (ap is_left (sym is ∙ h.left))))
+
+module _ (order : List Event) (member : ℕ) (given : Type 0) (g : given) where
   pub follow_moved : (n : ModelNode) (k : Kind) (m : ModelNode)
       → (k ≡ Pays → n.at.view ≤ n.at.committed) → May true k → Move order given n k m
       → Follows order member n → Follows order member m
   follow_moved n k m synced may move h = record {
     home = (move_grows order given n k m move).member ∙ h.home;
-    connected = phase_moved order given n k m move ∙ h.connected;
     facts = facts_moved order given g n k m move h.facts;
-    in_step = in_step_moved order given true n k m may move h.in_step;
     stage = stage_moved order n given g k m synced
-        (λ e there. subst (λ j. Keeps j e) (sym h.home) (keeps n.at.certified e there)) may move
-        h.facts h.stage;
+        (keeps_next order n h.facts.in_order.certified_fits h.place) may move h.facts h.stage;
+    place = place_moved order given n k m may move h.place;
   }
 
   pub quiet_not : Quiet ≡ Pays → ⊥
@@ -114,18 +184,18 @@ module _ (order : List Event) (given : Type 0) (n : ModelNode) (s : ℕ) (c : Ca
   client_still = told_still (get n.waiting s) (asked order n s (get n.live s) c)
       (asked_still (get n.live s))
 
-pub client_follows : (order : List Event) (member : ℕ) → AllKeep order member → (n : ModelNode)
+pub client_follows : (order : List Event) (member : ℕ) (n : ModelNode)
     (s : ℕ) (c : Call) → CanCall n c → Follows order member n
     → Follows order member (client order n s c).1
-client_follows order member keeps n s c can h = by (nat_lt n.at.committed n.at.view) refl
+client_follows order member n s c can h = by (nat_lt n.at.committed n.at.view) refl
   where
     by : (b : Bool) → nat_lt n.at.committed n.at.view ≡ b
         → Follows order member (client order n s c).1
     by true early =
-        still_follows order member keeps (CanCall n c) can n (client order n s c).1
+        still_follows order member (CanCall n c) can n (client order n s c).1
         (client_still order (CanCall n c) n s c early) h
     by false late =
-        paid_follows order member keeps (CanCall n c) can n 1 (client order n s c).1
+        paid_follows order member (CanCall n c) can n 1 (client order n s c).1
         (ltb-false n.at.committed n.at.view late) (client_moves order true n s c) h
 
 -- ---- a report is one move, of a node that has committed the view of its member
@@ -139,15 +209,21 @@ module _ (order : List Event) (given : Type 0) (n : ModelNode)
       (answer.Reported n.at.committed, put_report n) (λ _. Here)
       (λ is. absurd (joining_or (is_joining n.at.phase) _ early is)))
 
-pub report_follows : (order : List Event) (member : ℕ) → AllKeep order member → (n : ModelNode)
+pub report_follows : (order : List Event) (member : ℕ) (n : ModelNode)
     → Follows order member n → Follows order member (report_step n).1
-report_follows order member keeps n h = by (nat_lt n.at.committed n.at.view) refl
+report_follows order member n h = by (nat_lt n.at.committed n.at.view) refl
   where
     by : (b : Bool) → nat_lt n.at.committed n.at.view ≡ b
         → Follows order member (report_step n).1
     by true early =
-        still_follows order member keeps (Unit {0}) tt n (report_step n).1
+        still_follows order member (Unit {0}) tt n (report_step n).1
         (report_still order (Unit {0}) n early) h
     by false late =
-        paid_follows order member keeps (Unit {0}) tt n 1 (report_step n).1
+        paid_follows order member (Unit {0}) tt n 1 (report_step n).1
         (ltb-false n.at.committed n.at.view late) (report_moves order (Unit {0}) true n) h
+
+-- a status is no move
+pub status_follows : (order : List Event) (member : ℕ) (n : ModelNode)
+    → Follows order member n → Follows order member (status_step order n).1
+unfolding status_step
+status_follows order member n h = h

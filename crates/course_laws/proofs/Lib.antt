@@ -9,6 +9,9 @@ pub mod Taking
 pub mod Following
 pub mod Ahead
 pub mod Growing
+pub mod Leaving
+pub mod Viewed
 pub mod CourseLaws
+pub mod KeptLaws
 pub mod Runs
 pub mod Answers

@@ -13,7 +13,7 @@ use Rattle.node_meaning.specs.Facts.{Facts, Lined, pending}
 use Rattle.node_meaning.proofs.CertifyFacts.{drop_one}
 use Rattle.node_laws.proofs.Moves.{with_certified}
 use Rattle.node_laws.proofs.Heads.{IsSplit, Split, split}
-use Rattle.node_laws.proofs.InStep.{message_of, messages_behind}
+use Rattle.node_laws.specs.InStep.{message_of, messages_behind}
 use Rattle.node_laws.proofs.SentMoved.{certifies_pending}
 use Rattle.course_laws.specs.Ordered.{pending_sets, seen_in, seen_ahead}
 

@@ -1,6 +1,7 @@
 -- A run of a cluster gives each of its nodes a course: its own steps are what it does, and what the
--- other nodes order is of none of its member. So the laws hold of every node of every run.
-use Rattle.std.proofs.Common.{◌≡◌, ℕ, zero, suc, ◌+◌, ◌-◌, ◌≤◌, ◌<◌, ◌^◌, Bool, true, false, List, [], ◌∷◌, ◌++◌, length, Option, Some, None, refl, ap, sym, subst, ◌∙◌, arith, append-nil, eq-eqb, true≢false, ltb-true, ltb-false}
+-- other nodes order is of none of its member, whom their views keep exactly while it has not left.
+-- So the laws hold of every node of every run.
+use Rattle.std.proofs.Common.{◌≡◌, ℕ, zero, suc, ◌+◌, ◌-◌, ◌≤◌, ◌<◌, ◌^◌, Bool, true, false, List, [], ◌∷◌, ◌++◌, length, Option, Some, None, refl, ap, sym, subst, ◌∙◌, arith, append-nil, eq-eqb, true≢false, ltb-true, ltb-false, cond}
 use Rattle.std.specs.Prelude.{◌==◌, nat_lt, map, slice_get}
 use Rattle.std.specs.List.{AllByRecursion}
 use Rattle.std.proofs.lemmas.List.{map-append, length-map}
@@ -11,17 +12,23 @@ use Rattle.order_event.specs.declared.event.Message.TheVariants as message
 use Rattle.order_event.specs.declared.step.Act.{Act}
 use Rattle.order_event.specs.declared.step.Act.TheVariants as act
 use Rattle.order_event.specs.declared.step.Step.{Step}
-use Rattle.group_order.specs.Order.{event_of, up_to}
-use Rattle.node_meaning.specs.Node.{ModelNode, start_node}
+use Rattle.order_event.specs.declared.step.Answer.TheVariants as answer
+use Rattle.order_event.specs.declared.step.Answer.{Answer}
+use Rattle.group_order.specs.Order.{event_of, up_to, view_without, last_view, start_order}
+use Rattle.node_meaning.specs.Node.{ModelNode, start_node, is_left}
 use Rattle.node_meaning.specs.Steps.{sent_out, node_step, drained}
-use Rattle.node_meaning.specs.Cluster.{ModelCluster, start_cluster, set_at, order_first, drain, step_of, step_at, cluster_step, run}
+use Rattle.node_meaning.specs.Cluster.{ModelCluster, start_cluster, set_at, order_first, drain, step_of, step_at, cluster_step, run, leave_now}
+use Rattle.node_meaning.specs.Leaving.{left_node}
 use Rattle.node_laws.proofs.Moves.{with_ordered}
 use Rattle.node_laws.proofs.SetLists.{equal, unequal, all_push, all_each}
-use Rattle.node_laws.proofs.ClusterLaws.{Differ, ActFits, SoundCluster, step_sound, cluster_grows, length-up_to, start_sound, run_sound}
-use Rattle.course_laws.specs.Courses.{Course, Happens, Others, Does, first_event, next, course, IsOfOthers, Fits, AllFit}
-use Rattle.course_laws.specs.Laws.{RunsAreLawful}
-use Rattle.course_laws.proofs.CourseLaws.{Kept, kept_laws, from_start}
+use Rattle.node_laws.specs.Fits.{ActFits}
+use Rattle.node_laws.proofs.ClusterLaws.{Differ, SoundCluster, step_sound, cluster_grows, length-up_to, start_sound, run_sound}
+use Rattle.course_laws.specs.Courses.{Course, Happens, Others, Does, first_event, next, course, IsOfOthers, Fits, AllFit, leave_over}
+use Rattle.course_laws.specs.Laws.{RunsAreLawful, IsViewed}
+use Rattle.course_laws.proofs.CourseLaws.{Kept, from_start, is_numbered}
+use Rattle.course_laws.proofs.KeptLaws.{kept_laws}
 use Rattle.course_laws.proofs.Growing.{front_get}
+use Rattle.course_laws.proofs.Viewed.{without_other, next_viewed}
 
 -- ---- one node takes another's place
 pub set_here : (xs : List ModelNode) (i : ℕ) (n a : ModelNode) → slice_get xs i ≡ Some n
@@ -50,7 +57,8 @@ pub record StepOf (c d : ModelCluster) (i : ℕ) (n : ModelNode) : Type 0 where
   pub there : slice_get d.nodes i ≡ Some node
   pub leads : next (at_node c.order n) happens ≡ at_node d.order node
 
-module _ (c : ModelCluster) (i : ℕ) (n : ModelNode) (there : slice_get c.nodes i ≡ Some n) where
+module _ (c : ModelCluster) (i : ℕ) (n : ModelNode) (there : slice_get c.nodes i ≡ Some n)
+    (viewed : IsViewed c.order n.at.member (is_left n.at.phase)) where
   -- nothing
   still : StepOf c c i n
   still = record {
@@ -94,6 +102,19 @@ module _ (c : ModelCluster) (i : ℕ) (n : ModelNode) (there : slice_get c.nodes
         leads = refl;
       }
 
+  abbrev leaves : Bool → Answer × ModelCluster
+  leaves b = cond b (answer.Disconnected, c) (leave_now c i n)
+
+  leave_by : (b : Bool) → is_left n.at.phase ≡ b → StepOf c (leaves b).1 i n
+  leave_by true is = still
+  leave_by false is = record {
+    happens = Does act.Leave;
+    fits = tt;
+    node = left_node n;
+    there = set_here c.nodes i n (left_node n) there;
+    leads = ap (λ b. cond b (at_node c.order n) (leave_over (at_node c.order n))) is;
+  }
+
   own_step : (a : Act) → ActFits a → StepOf c (step_of c i n a).1 i n
   own_step (act.Client session call) fits = does_alone (act.Client session call) fits refl
   own_step act.Order fits = first_by n.outbox refl
@@ -104,20 +125,22 @@ module _ (c : ModelCluster) (i : ℕ) (n : ModelNode) (there : slice_get c.nodes
   own_step act.Advance fits = does_alone act.Advance fits refl
   own_step act.Drain fits = drain_by
   own_step act.Report fits = does_alone act.Report fits refl
-  own_step act.Status fits = still
-  own_step act.Leave fits = still
+  own_step act.Status fits = does_alone act.Status fits refl
+  own_step act.Leave fits = leave_by (is_left n.at.phase) refl
   own_step (act.Join fresh) fits = still
   own_step (act.Transfer donor) fits = still
 
   -- ---- another node's
   module _ (j : ℕ) (m : ModelNode) (beside : j ≡ i → ⊥)
       (differs : m.at.member ≡ n.at.member → ⊥) where
-    of_others : (x : Message) → IsOfOthers n.at.member (event_of m.at.member x)
+    of_others : (x : Message)
+        → IsOfOthers n.at.member (is_left n.at.phase) (event_of m.at.member x)
     of_others (message.Write body) = unequal m.at.member n.at.member differs
     of_others (message.Report number) = unequal m.at.member n.at.member differs
 
     all_of_others : (xs : List Message)
-        → AllByRecursion (IsOfOthers n.at.member) (map (event_of m.at.member) xs)
+        → AllByRecursion (IsOfOthers n.at.member (is_left n.at.phase))
+        (map (event_of m.at.member) xs)
     all_of_others [] = tt
     all_of_others (x ∷ xs) = (of_others x, all_of_others xs)
 
@@ -147,6 +170,19 @@ module _ (c : ModelCluster) (i : ℕ) (n : ModelNode) (there : slice_get c.nodes
     first_beside [] = still
     first_beside (x ∷ xs) = orders (x ∷ []) (sent_out m)
 
+    -- its view has whom the last one had, but for its own member
+    leave_beside : (b : Bool)
+        → StepOf c (cond b (answer.Disconnected, c) (leave_now c j m)).1 i n
+    leave_beside true = still
+    leave_beside false = record {
+      happens = Others (view_without c.order m.at.member ∷ []);
+      fits =
+          (without_other n.at.member m.at.member (last_view c.order).1 differs ∙ viewed, tt);
+      node = n;
+      there = set_beside c.nodes j i (left_node m) beside ∙ there;
+      leads = refl;
+    }
+
     other_step : (a : Act) → StepOf c (step_of c j m a).1 i n
     other_step (act.Client session call) = moves (node_step c.order m (act.Client session call)).1
     other_step act.Order = first_beside m.outbox
@@ -158,8 +194,8 @@ module _ (c : ModelCluster) (i : ℕ) (n : ModelNode) (there : slice_get c.nodes
     other_step act.Drain = orders m.outbox
         (drained (c.order ++ map (event_of m.at.member) m.outbox) (with_ordered m m.outbox []))
     other_step act.Report = moves (node_step c.order m act.Report).1
-    other_step act.Status = still
-    other_step act.Leave = still
+    other_step act.Status = moves (node_step c.order m act.Status).1
+    other_step act.Leave = leave_beside (is_left m.at.phase)
     other_step (act.Join fresh) = still
     other_step (act.Transfer donor) = still
 
@@ -193,19 +229,39 @@ pub record CourseOf (c : Course) (most : ℕ) (d : ModelCluster) (i : ℕ) : Typ
   pub there : slice_get d.nodes i ≡ Some node
   pub leads : course c happens ≡ at_node d.order node
 
+-- the last view has the members of exactly those nodes that have not left
+abbrev pub AllViewed : ModelCluster → Type 0
+AllViewed c =
+    (i : ℕ) (n : ModelNode) → slice_get c.nodes i ≡ Some n
+    → IsViewed c.order n.at.member (is_left n.at.phase)
+
+pub step_all_viewed : (c : ModelCluster) → Differ c.nodes → AllViewed c → (step : Step)
+    → ActFits step.act → AllViewed (cluster_step c step).1
+step_all_viewed c differ viewed step fits i n there =
+    let d = (cluster_step c step).1 in
+    let was = (cluster_grows c step).each i n there in
+    let s = cluster_step_of c i was.old was.there (viewed i was.old was.there) differ step fits in
+    let now = next_viewed (at_node c.order was.old) s.happens s.fits
+    (viewed i was.old was.there) in
+    subst (λ (m : ModelNode). IsViewed (cluster_step c step).1.order m.at.member
+    (is_left m.at.phase)) (same_Some s.node n (sym s.there ∙ there))
+    (subst (λ (x : Course). IsViewed x.order x.node.at.member (is_left x.node.at.phase)) s.leads
+    now)
+
 pub run_course : (steps : List Step) (most : ℕ) (c : ModelCluster)
     → most + length steps ≤ 2 ^ 63
     → AllByRecursion (λ (step : Step). ActFits step.act) steps → SoundCluster most c
-    → (i : ℕ) (n : ModelNode) → slice_get c.nodes i ≡ Some n
+    → AllViewed c → (i : ℕ) (n : ModelNode) → slice_get c.nodes i ≡ Some n
     → CourseOf (at_node c.order n) (length steps) (run steps c).1 i
 unfolding run
-run_course [] most c few fits sound i n there =
+run_course [] most c few fits sound viewed i n there =
     record { happens = []; count = refl; fits = tt; node = n; there = there; leads = refl }
-run_course (step ∷ steps) most c few fits sound i n there =
-    let s = cluster_step_of c i n there sound.differ step fits.0 in
+run_course (step ∷ steps) most c few fits sound viewed i n there =
+    let s = cluster_step_of c i n there (viewed i n there) sound.differ step fits.0 in
     let d = (cluster_step c step).1 in
     let rest = run_course steps (most + 1) d (omega (arith, few)) fits.1
-    (step_sound most c (omega (arith, few)) sound step fits.0) i s.node s.there in
+    (step_sound most c (omega (arith, few)) sound step fits.0)
+    (step_all_viewed c sound.differ viewed step fits.0) i s.node s.there in
     record {
       happens = s.happens ∷ rest.happens;
       count = ap suc rest.count;
@@ -214,6 +270,17 @@ run_course (step ∷ steps) most c few fits sound i n there =
       there = rest.there;
       leads = ap (λ x. course x rest.happens) s.leads ∙ rest.leads;
     }
+
+pub run_all_viewed : (steps : List Step) (most : ℕ) (c : ModelCluster)
+    → most + length steps ≤ 2 ^ 63
+    → AllByRecursion (λ (step : Step). ActFits step.act) steps → SoundCluster most c
+    → AllViewed c → AllViewed (run steps c).1
+unfolding run
+run_all_viewed [] most c few fits sound viewed = viewed
+run_all_viewed (step ∷ steps) most c few fits sound viewed =
+    run_all_viewed steps (most + 1) (cluster_step c step).1 (omega (arith, few)) fits.1
+    (step_sound most c (omega (arith, few)) sound step fits.0)
+    (step_all_viewed c sound.differ viewed step fits.0)
 
 -- ---- the start
 last_at : (xs : List ModelNode) (a : ModelNode) (k : ℕ) → k ≡ length xs
@@ -265,37 +332,60 @@ run_count [] c = refl
 run_count (step ∷ steps) c =
     run_count steps (cluster_step c step).1 ∙ (cluster_grows c step).count
 
--- what is kept of a node along its course is kept of every node of every run
-pub runs_kept : (nodes : ℕ) (id : List ℕ) (steps : List Step)
-    → nodes < 2 ^ 32 → length steps < 2 ^ 63
-    → AllByRecursion (λ (step : Step). ActFits step.act) steps → (i : ℕ) (n : ModelNode)
-    → slice_get (run steps (start_cluster nodes id)).1.nodes i ≡ Some n
-    → Kept (suc i) (1 + length steps) (run steps (start_cluster nodes id)).1.order n
-unfolding start_cluster
-runs_kept nodes id steps small few fits i n there =
-    let start = start_cluster nodes id in
-    let final = (run steps start).1 in
-    let inside : i < nodes =
-    subst (λ k. i < k) (run_count steps start ∙ start_count id nodes)
-    (slice_get_within final.nodes i n there) in
-    let member = suc i in
-    let sound = start_sound nodes id (all_each (λ m. m ≤ nodes) (λ m. m < 2 ^ 32)
-    (λ m h. omega (arith, h, small)) (up_to nodes) (numbered nodes)) in
-    let size = (run_sound steps 1 start (omega (arith, few)) fits sound).size in
-    let c = run_course steps 1 start (omega (arith, few)) fits sound i (start_node id member)
-    (start_at id nodes i inside) in
-    let short : length final.order ≤ 2 ^ 63 = omega (arith, size, few) in
-    let same : c.node ≡ n = same_Some c.node n (sym c.there ∙ there) in
-    subst (Kept member (1 + length steps) final.order) same
-    (subst (λ (x : Course). Kept member (1 + length steps) x.order x.node) c.leads
-    (subst (λ k. Kept member (1 + k) (course (at_node start.order (start_node id member))
-    c.happens).order (course (at_node start.order (start_node id member)) c.happens).node) c.count
-    (from_start nodes member id c.happens (omega arith) inside
-    (omega (arith, inside, small)) c.fits (omega (arith, c.count, few))
-    (subst (λ (x : Course). length x.order ≤ 2 ^ 63) (sym c.leads) short))))
+-- ---- runs from the start
+module _ (nodes : ℕ) (id : List ℕ) (small : nodes < 2 ^ 32) where
+  abbrev start : ModelCluster
+  start = start_cluster nodes id
+
+  pub start_is_sound : SoundCluster 1 (start_cluster nodes id)
+  start_is_sound =
+      start_sound nodes id (all_each (λ m. m ≤ nodes) (λ m. m < 2 ^ 32)
+      (λ m h. omega (arith, h, small)) (up_to nodes) (numbered nodes))
+
+  pub start_viewed : AllViewed (start_cluster nodes id)
+  unfolding start_cluster
+  start_viewed i n there =
+      let inside : i < nodes =
+      subst (λ k. i < k) (start_count id nodes) (slice_get_within (starts id nodes) i n there) in
+      subst (λ (m : ModelNode). IsViewed (start_order nodes) m.at.member (is_left m.at.phase))
+      (same_Some (start_node id (suc i)) n (sym (start_at id nodes i inside) ∙ there))
+      (is_numbered nodes (suc i) (omega arith) inside)
+
+  module _ (steps : List Step) (few : length steps < 2 ^ 63)
+      (fits : AllByRecursion (λ (step : Step). ActFits step.act) steps) where
+    -- what is kept of a node along its course is kept of every node of every run
+    pub runs_kept : (i : ℕ) (n : ModelNode)
+        → slice_get (run steps (start_cluster nodes id)).1.nodes i ≡ Some n
+        → Kept (suc i) (1 + length steps) (run steps (start_cluster nodes id)).1.order n
+    unfolding start_cluster
+    runs_kept i n there =
+        let final = (run steps start).1 in
+        let inside : i < nodes =
+        subst (λ k. i < k) (run_count steps start ∙ start_count id nodes)
+        (slice_get_within final.nodes i n there) in
+        let member = suc i in
+        let size =
+        (run_sound steps 1 start (omega (arith, few)) fits start_is_sound).size in
+        let c = run_course steps 1 start (omega (arith, few)) fits start_is_sound start_viewed i
+        (start_node id member) (start_at id nodes i inside) in
+        let short : length final.order ≤ 2 ^ 63 = omega (arith, size, few) in
+        let same : c.node ≡ n = same_Some c.node n (sym c.there ∙ there) in
+        subst (Kept member (1 + length steps) final.order) same
+        (subst (λ (x : Course). Kept member (1 + length steps) x.order x.node) c.leads
+        (subst (λ k. Kept member (1 + k) (course (at_node start.order (start_node id member))
+        c.happens).order (course (at_node start.order (start_node id member)) c.happens).node)
+        c.count
+        (from_start nodes member id c.happens (omega arith) inside
+        (omega (arith, inside, small)) c.fits (omega (arith, c.count, few))
+        (subst (λ (x : Course). length x.order ≤ 2 ^ 63) (sym c.leads) short))))
+
+    pub runs_viewed : AllViewed (run steps (start_cluster nodes id)).1
+    runs_viewed =
+        run_all_viewed steps 1 start (omega (arith, few)) fits start_is_sound start_viewed
 
 -- the laws hold of every node of every run
 pub runs_are_lawful : RunsAreLawful
 runs_are_lawful nodes id steps small few fits i n there =
     kept_laws (suc i) (1 + length steps) (run steps (start_cluster nodes id)).1.order n
-    (runs_kept nodes id steps small few fits i n there)
+    (runs_kept nodes id small steps few fits i n there)
+    (runs_viewed nodes id small steps few fits i n there)

@@ -31,7 +31,7 @@ use Rattle.node_meaning.proofs.RangeLaws.{commit-decoded, fragment-decoded, roll
 use Rattle.node_meaning.proofs.SentLaws.{pending-sent, pending-reported}
 use Rattle.node_laws.proofs.Moves.{IsRunning, Unlocked, Sent, Passed}
 use Rattle.node_laws.proofs.SetLists.{serials_push, all_push}
-use Rattle.node_laws.proofs.InStep.{messages_behind}
+use Rattle.node_laws.specs.InStep.{messages_behind}
 use Rattle.course_laws.specs.Ordered.{pending_sets, seen_in, seen_ahead, Rises, IsPlaced, AllEnd, GoesOn, Entered, OrderedFacts}
 use Rattle.course_laws.proofs.PendingSets.{sets_lined}
 use Rattle.course_laws.proofs.Placing.{fragment_placed, commit_placed, ends_push, ends_rollback, rises_push, rises_higher}

@@ -1,6 +1,6 @@
 -- Every move keeps the stage of a node: that it has certified nothing, has nothing live and has
 -- sent nothing, or what holds over the order so far.
-use Rattle.std.proofs.Common.{◌≡◌, ℕ, ◌+◌, ◌≤◌, true, List, [], length, Some, None, refl, ap, sym, subst, ◌∙◌, arith}
+use Rattle.std.proofs.Common.{◌≡◌, ℕ, ◌+◌, ◌≤◌, true, List, [], length, Some, None, refl, ap, sym, subst, ◌∙◌, arith, false}
 use Rattle.std.specs.Prelude.{◌==◌, max, slice_get}
 use Rattle.std.specs.List.{filter_map, list_any}
 use Rattle.std.specs.Ordering.{nat_cmp}
@@ -20,7 +20,7 @@ use Rattle.client_trx.specs.Live.{Live, with_status}
 use Rattle.node_meaning.specs.Node.{ModelNode}
 use Rattle.node_meaning.specs.Client.{extended}
 use Rattle.node_meaning.specs.Facts.{Facts, pending}
-use Rattle.node_laws.proofs.Moves.{Kind, Pays, Move, Begins, Extends, Streams, Sends, Ends, TakesBack, Unlocks, Reports, Orders, Takes, Certifies, Passes, Fails, Advances, Commits, May, MayCertify, with_certified, ended_with}
+use Rattle.node_laws.proofs.Moves.{Kind, Pays, Move, Begins, Extends, Streams, Sends, Ends, TakesBack, Unlocks, Reports, Orders, Leaves, Takes, Certifies, Passes, Fails, Advances, Commits, May, MayCertify, with_certified, ended_with}
 use Rattle.node_laws.proofs.Sendable.{due_is}
 use Rattle.node_laws.proofs.SentMoved.{takes_pending, certifies_pending}
 use Rattle.course_laws.specs.Ordered.{pending_sets, seen_ahead, GoesOn, Entered, OrderedFacts, Keeps, IsEarly, Stage, Early, Since}
@@ -69,7 +69,8 @@ module _ (order : List Event) (n : ModelNode) (h : OrderedFacts order n) where
 module _ (order : List Event) (n : ModelNode) (f : Facts order n) (h : OrderedFacts order n) where
   pub ordered_moved : (given : Type 0) → given → (k : Kind) (m : ModelNode)
       → (k ≡ Pays → n.at.view ≤ n.at.committed)
-      → ((e : Event) → slice_get order n.at.certified ≡ Some e → Keeps n.at.member e)
+      → ((e : Event) → n.at.certified == n.at.taken ≡ false
+      → slice_get order n.at.certified ≡ Some e → Keeps n.at.member e)
       → May true k → Move order given n k m → OrderedFacts order m
   ordered_moved given g k m synced keeps may (Begins se unit begins) =
       begun_entered order n f h (synced refl) se unit
@@ -90,12 +91,14 @@ module _ (order : List Event) (n : ModelNode) (f : Facts order n) (h : OrderedFa
   ordered_moved given g k m synced keeps may (Unlocks se t to there unlocked) =
       put_entered order n f h se (with_status t to)
       (resting order n f h se t there (with_status t to) (not_running t.status to unlocked))
-  ordered_moved given g k m synced keeps may Reports = report_entered order n f h (synced refl)
+  ordered_moved given g k m synced keeps may (Reports stays) =
+      report_entered order n f h (synced refl)
   ordered_moved given g k m synced keeps may (Orders front back is) = absurd may
+  ordered_moved given g k m synced keeps may (Leaves stay) = absurd may
   ordered_moved given g k m synced keeps may (Takes e ordered there leaves) =
       same_pending order n h _ (takes_pending order n f.in_order f.sent e ordered there leaves)
   ordered_moved given g k m synced keeps may (Certifies e next) =
-      certified_ordered order n f h e next (keeps e next.next)
+      certified_ordered order n f h e next (keeps e next.more next.next)
   ordered_moved given g k m synced keeps may (Passes se t body w judged pass) =
       passes_ordered order n f h se t body w judged pass
   ordered_moved given g k m synced keeps may (Fails se t body w v judged came) =
@@ -193,10 +196,11 @@ module _ (order : List Event) (n : ModelNode) (f : Facts order n)
   early_moved given k m synced may (Ends se t o there) = absurd (h.idle se t there)
   early_moved given k m synced may (TakesBack se t w o there due range) = absurd (h.idle se t there)
   early_moved given k m synced may (Unlocks se t to there unlocked) = absurd (h.idle se t there)
-  early_moved given k m synced may Reports =
+  early_moved given k m synced may (Reports stays) =
       let s = synced refl in
       absurd (omega (arith, s, f.in_order.committed_fits, h.none, h.first))
   early_moved given k m synced may (Orders front back is) = absurd may
+  early_moved given k m synced may (Leaves stay) = absurd may
   early_moved given k m synced may (Takes e ordered there leaves) =
       Early (early_pending _ (takes_pending order n f.in_order f.sent e ordered there leaves))
   early_moved given k m synced may (Certifies e next) = Since (view_certified e next)
@@ -210,7 +214,8 @@ module _ (order : List Event) (n : ModelNode) (f : Facts order n)
 -- ---- either
 pub stage_moved : (order : List Event) (n : ModelNode) (given : Type 0) → given → (k : Kind)
     (m : ModelNode) → (k ≡ Pays → n.at.view ≤ n.at.committed)
-    → ((e : Event) → slice_get order n.at.certified ≡ Some e → Keeps n.at.member e)
+    → ((e : Event) → n.at.certified == n.at.taken ≡ false
+    → slice_get order n.at.certified ≡ Some e → Keeps n.at.member e)
     → May true k → Move order given n k m → Facts order n → Stage order n → Stage order m
 stage_moved order n given g k m synced keeps may move f (Early h) =
     early_moved order n f h given k m synced may move

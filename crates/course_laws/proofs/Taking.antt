@@ -14,10 +14,10 @@ use Rattle.node_meaning.specs.Node.{ModelNode, is_connected}
 use Rattle.node_meaning.specs.Steps.{is_write, is_report, without_first, is_this_write, unqueued, took, take_event, take_step}
 use Rattle.node_meaning.proofs.CertifyFacts.{drop_one}
 use Rattle.node_laws.proofs.Moves.{with_taken}
-use Rattle.node_laws.proofs.InStep.{message_of, messages_behind, IsInStep}
+use Rattle.node_laws.specs.InStep.{message_of, messages_behind, IsInStep}
 use Rattle.course_laws.specs.Laws.{NoSplit}
 
-nothing_not : answer.Nothing ≡ answer.Split → ⊥
+pub nothing_not : answer.Nothing ≡ answer.Split → ⊥
 nothing_not is = cc
 
 took_not : (k : ℕ) → answer.Took k ≡ answer.Split → ⊥

@@ -19,7 +19,7 @@ use Rattle.client_trx.specs.Live.{Live}
 use Rattle.client_trx.specs.declared.status.Status.TheVariants as status
 use Rattle.node_meaning.specs.Node.{ModelNode}
 use Rattle.node_meaning.specs.Facts.{SerialsRise, pending}
-use Rattle.node_laws.proofs.InStep.{messages_behind}
+use Rattle.node_laws.specs.InStep.{messages_behind}
 
 -- the write sets that are pending
 abbrev pub pending_sets : List Event → ModelNode → List WriteSet
