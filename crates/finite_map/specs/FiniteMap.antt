@@ -1,6 +1,6 @@
--- A finite map that computes: its entries in the order of the keys, with the proof that they are in order.
--- Two maps that answer alike are equal, and `unfolding computing_maps` opens every function on them,
--- so that a worked example over maps holds by `refl`.
+-- A finite map that computes: its entries in the order of the keys, with the proof that they are in
+-- order. Two maps that answer alike are equal, and `unfolding computing_maps` opens every function
+-- on them, so that a worked example over maps holds by `refl`.
 use mathlib.Core.HLevel.{Σ_prop_path}
 use lib.Dec.{T_prop}
 use Rattle.std.specs.Prelude.{◌≡◌, ℕ, ◌+◌, Bool, true, false, cond, not, T, List, [], ◌∷◌, map, length, is_some, Option, None, Some, refl}
@@ -22,7 +22,9 @@ module _ {K X : Type 0} {R : K → K → Ordering} where
   -- a map is its entries
   pub same_entries_map : (m n : FiniteMap R X) → m.entries ≡ n.entries → m ≡ n
   same_entries_map m n e =
-      let pairs : ◌≡◌ {A = (es : List (K × X)) × T (is_sorted R es)} (m.entries, m.sorted) (n.entries, n.sorted) =
+      let pairs
+      : ◌≡◌ {A = (es : List (K × X)) × T (is_sorted R es)}
+      (m.entries, m.sorted) (n.entries, n.sorted) =
       Σ_prop_path (λ es. T_prop _) e in
       λ i. record { entries = (pairs i).0; sorted = (pairs i).1 }
 
@@ -34,7 +36,8 @@ module _ {K X : Type 0} {R : K → K → Ordering} where
   empty = record { entries = []; sorted = tt }
 
   -- the map of these entries, or the one given where they are out of order
-  unfoldable pub checked : (es : List (K × X)) (b : Bool) → is_sorted R es ≡ b → FiniteMap R X → FiniteMap R X
+  unfoldable pub checked : (es : List (K × X)) (b : Bool) → is_sorted R es ≡ b → FiniteMap R X
+      → FiniteMap R X
   checked es true e m = record { entries = es; sorted = subst T (sym e) tt }
   checked es false e m = m
 
@@ -46,7 +49,10 @@ module _ {K X : Type 0} {R : K → K → Ordering} where
   insert m k v = checked (put R k v m.entries) _ refl m
 
   unfoldable pub retain_keys : FiniteMap R X → (K → Bool) → FiniteMap R X
-  retain_keys m p = record { entries = where_key R p m.entries; sorted = is_sorted-where_key R p m.entries m.sorted }
+  retain_keys m p = record {
+    entries = where_key R p m.entries;
+    sorted = is_sorted-where_key R p m.entries m.sorted;
+  }
 
   unfoldable pub remove : FiniteMap R X → K → FiniteMap R X
   remove m k = retain_keys m (λ x. not (eq_by_cmp R k x))
@@ -101,13 +107,15 @@ module _ {K X : Type 0} {R : K → K → Ordering} where
   entries-checked es true e m h = refl
   entries-checked es false e m h = absurd h
 
-  pub get-retain_keys : (m : FiniteMap R X) (p : K → Bool) (q : K) → ((x : K) → R q x ≡ Equal → p x ≡ p q)
+  pub get-retain_keys : (m : FiniteMap R X) (p : K → Bool) (q : K)
+      → ((x : K) → R q x ≡ Equal → p x ≡ p q)
       → get (retain_keys m p) q ≡ cond (p q) (get m q) None
   unfolding get retain_keys
   get-retain_keys m p q alike = find-where_key R p q alike m.entries
 
 module _ {K X : Type 0} {R : K → K → Ordering} (o : IsTotalOrder R) where
-  pub entries-insert : (m : FiniteMap R X) (k : K) (v : X) → (insert m k v).entries ≡ put R k v m.entries
+  pub entries-insert : (m : FiniteMap R X) (k : K) (v : X)
+      → (insert m k v).entries ≡ put R k v m.entries
   unfolding insert
   entries-insert m k v = entries-checked _ _ refl m (is_sorted-put R o k v m.entries m.sorted)
 
@@ -116,29 +124,36 @@ module _ {K X : Type 0} {R : K → K → Ordering} (o : IsTotalOrder R) where
   unfolding get
   get-insert m k v q = ap (find R q) (entries-insert m k v) ∙ find-put R o q k v m.entries
 
-  pub get-remove : (m : FiniteMap R X) (k q : K) → get (remove m k) q ≡ cond (eq_by_cmp R q k) None (get m q)
+  pub get-remove : (m : FiniteMap R X) (k q : K)
+      → get (remove m k) q ≡ cond (eq_by_cmp R q k) None (get m q)
   unfolding remove
   get-remove m k q =
-      get-retain_keys m (λ x. not (eq_by_cmp R k x)) q (λ x t. ap (λ r. not (is_eq r)) (sym (alike_right o q x k t)))
-      ∙ turned (eq_by_cmp R k q) _ _ ∙ ap (λ b. cond b None (get m q)) ((eq_by_cmp_equiv o).symm k q)
+      get-retain_keys m (λ x. not (eq_by_cmp R k x)) q
+      (λ x t. ap (λ r. not (is_eq r)) (sym (alike_right o q x k t)))
+      ∙ turned (eq_by_cmp R k q) _ _
+      ∙ ap (λ b. cond b None (get m q)) ((eq_by_cmp_equiv o).symm k q)
 
   pub get-from_entries : (es : List (K × X)) (q : K) → get (from_entries {R = R} es) q ≡ find R q es
   get-from_entries [] q = get-empty R q
   get-from_entries (e ∷ es) q =
-      get-insert (from_entries es) e.0 e.1 q ∙ ap (cond (eq_by_cmp R q e.0) (Some e.1)) (get-from_entries es q)
+      get-insert (from_entries es) e.0 e.1 q
+      ∙ ap (cond (eq_by_cmp R q e.0) (Some e.1)) (get-from_entries es q)
 
-  pub len-insert : (m : FiniteMap R X) (k : K) (v : X) → len (insert m k v) ≡ cond (contains_key m k) (len m) (len m + 1)
+  pub len-insert : (m : FiniteMap R X) (k : K) (v : X)
+      → len (insert m k v) ≡ cond (contains_key m k) (len m) (len m + 1)
   unfolding len get
   len-insert m k v = ap length (entries-insert m k v) ∙ length-put R o k v m.entries m.sorted
 
-  pub len_before_remove : (m : FiniteMap R X) (k : K) → cond (contains_key m k) 1 0 + len (remove m k) ≡ len m
+  pub len_before_remove : (m : FiniteMap R X) (k : K)
+      → cond (contains_key m k) 1 0 + len (remove m k) ≡ len m
   unfolding len get remove retain_keys
   len_before_remove m k = length_without R o k m.entries m.sorted
 
   -- two maps that answer alike are equal
   pub same_map : IsAntisymmetric R → (m n : FiniteMap R X) → ((q : K) → get m q ≡ get n q) → m ≡ n
   unfolding get
-  same_map same m n is = same_entries_map m n (same_entries R o same m.entries n.entries m.sorted n.sorted is)
+  same_map same m n is =
+      same_entries_map m n (same_entries R o same m.entries n.entries m.sorted n.sorted is)
 
 -- what `get` answers after each edit, for `grind`
 pub ruleset gets = (get-empty, get-insert, get-remove, get-from_entries, len-insert, nat_cmp_total)

@@ -20,33 +20,45 @@ module _ {K X Y : Type 0} where
   hashed f es = from_entries (entries_by f es)
 
 module _ {X Y : Type 0} (f : X → Y) where
-  moved : (b : Bool) (x : X) (o : Option X) → cond b (Some (f x)) (option_map f o) ≡ option_map f (cond b (Some x) o)
-  moved b x o = elim b as (λ c. cond c (Some (f x)) (option_map f o) ≡ option_map f (cond c (Some x) o)) [ true ↦ refl | false ↦ refl ]
+  moved : (b : Bool) (x : X) (o : Option X)
+      → cond b (Some (f x)) (option_map f o) ≡ option_map f (cond b (Some x) o)
+  moved b x o =
+      elim b as (λ c. cond c (Some (f x)) (option_map f o) ≡ option_map f (cond c (Some x) o))
+      [ true ↦ refl | false ↦ refl ]
 
   gone : (b : Bool) (o : Option X) → option_map f (cond b None o) ≡ cond b None (option_map f o)
-  gone b o = elim b as (λ c. option_map f (cond c None o) ≡ cond c None (option_map f o)) [ true ↦ refl | false ↦ refl ]
+  gone b o =
+      elim b as (λ c. option_map f (cond c None o) ≡ cond c None (option_map f o))
+      [ true ↦ refl | false ↦ refl ]
 
-module _ {K X Y : Type 0} (R : K → K → Ordering) (eq : K → K → Bool) (ties : (x y : K) → eq x y ≡ eq_by_cmp R x y) (f : X → Y) where
-  find-entries_by : (q : K) (es : List (K × X)) → find R q (entries_by f es) ≡ option_map f (lookup (eq q) es)
+module _ {K X Y : Type 0} (R : K → K → Ordering) (eq : K → K → Bool)
+    (ties : (x y : K) → eq x y ≡ eq_by_cmp R x y) (f : X → Y) where
+  find-entries_by : (q : K) (es : List (K × X))
+      → find R q (entries_by f es) ≡ option_map f (lookup (eq q) es)
   find-entries_by q [] = refl
   find-entries_by q (e ∷ es) =
       ap (λ b. cond b (Some (f e.1)) (find R q (entries_by f es))) (sym (ties q e.0))
       ∙ ap (λ o. cond (eq q e.0) (Some (f e.1)) o) (find-entries_by q es)
       ∙ moved f (eq q e.0) e.1 (lookup (eq q) es)
 
-  pub get-hashed : IsTotalOrder R → (es : List (K × X)) (q : K) → get (hashed {R = R} f es) q ≡ option_map f (lookup (eq q) es)
+  pub get-hashed : IsTotalOrder R → (es : List (K × X)) (q : K)
+      → get (hashed {R = R} f es) q ≡ option_map f (lookup (eq q) es)
   get-hashed o es q = get-from_entries o (entries_by f es) q ∙ find-entries_by q es
 
   module _ (o : IsTotalOrder R) (exact : IsAntisymmetric R) (es fs : List (K × X)) where
     -- the same look-ups, whatever the order of the entries
-    pub hashed-same : ((q : K) → lookup (eq q) fs ≡ lookup (eq q) es) → hashed {R = R} f fs ≡ hashed f es
-    hashed-same is = same_map o exact _ _ (λ q. get-hashed o fs q ∙ ap (option_map f) (is q) ∙ sym (get-hashed o es q))
+    pub hashed-same : ((q : K) → lookup (eq q) fs ≡ lookup (eq q) es)
+        → hashed {R = R} f fs ≡ hashed f es
+    hashed-same is =
+        same_map o exact _ _
+        (λ q. get-hashed o fs q ∙ ap (option_map f) (is q) ∙ sym (get-hashed o es q))
 
     tied : (k q : K) → eq k q ≡ eq_by_cmp R q k
     tied k q = ties k q ∙ (eq_by_cmp_equiv o).symm k q
 
     -- one key has a new value
-    pub hashed-insert : (k : K) (v : X) → ((q : K) → lookup (eq q) fs ≡ cond (eq k q) (Some v) (lookup (eq q) es))
+    pub hashed-insert : (k : K) (v : X)
+        → ((q : K) → lookup (eq q) fs ≡ cond (eq k q) (Some v) (lookup (eq q) es))
         → hashed {R = R} f fs ≡ insert (hashed f es) k (f v)
     hashed-insert k v is = same_map o exact _ _ (λ q.
         get-hashed o fs q ∙ ap (option_map f) (is q)
@@ -56,7 +68,8 @@ module _ {K X Y : Type 0} (R : K → K → Ordering) (eq : K → K → Bool) (ti
         ∙ sym (get-insert o (hashed f es) k (f v) q))
 
     -- one key is gone
-    pub hashed-remove : (k : K) → ((q : K) → lookup (eq q) fs ≡ cond (eq k q) None (lookup (eq q) es))
+    pub hashed-remove : (k : K)
+        → ((q : K) → lookup (eq q) fs ≡ cond (eq k q) None (lookup (eq q) es))
         → hashed {R = R} f fs ≡ remove (hashed f es) k
     hashed-remove k is = same_map o exact _ _ (λ q.
         get-hashed o fs q ∙ ap (option_map f) (is q)

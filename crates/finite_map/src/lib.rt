@@ -1,2 +1,2 @@
-//! A finite map as contracts see it, which computes on literals: definitions and laws alone, no code.
+//! A finite map as contracts see it, which computes on literals: definitions and laws, no code.
 #![tactic(auto)]
