@@ -12,7 +12,8 @@ counted n = min (n + 1) last_count
 abbrev pub is_due : ℕ → List ℕ → Bool
 is_due made fails = nat_lt made last_count && list_any (λ call. nat_eq call (made + 1)) fails
 
--- the bytes left, the most that one read gives, the calls that are to fail, the calls made and the faults
+-- the bytes left, the most that one read gives, the calls that are to fail, the calls made and the
+-- faults
 pub record ModelSource : Type 0 where
   pub left : List ℕ
   pub most : ℕ
@@ -21,7 +22,8 @@ pub record ModelSource : Type 0 where
   pub faults : ℕ
 
 abbrev pub new_source : List ℕ → ℕ → List ℕ → ModelSource
-new_source bytes most fails = record { left = bytes; most = most; fails = fails; calls = 0; faults = 0 }
+new_source bytes most fails =
+    record { left = bytes; most = most; fails = fails; calls = 0; faults = 0 }
 
 -- how many bytes a read gives that does not fail
 abbrev pub read_count : ModelSource → ℕ → ℕ
@@ -29,13 +31,18 @@ read_count source size = min source.most (min size (length source.left))
 
 -- what a read into a slice of this length answers
 abbrev pub read_answer : ModelSource → ℕ → Result ℕ Failed
-read_answer source size = if is_due source.calls source.fails then Err (record {}) else Ok (read_count source size)
+read_answer source size =
+    if is_due source.calls source.fails then Err (record {}) else Ok (read_count source size)
 
 -- the source after that read
 abbrev pub after_read : ModelSource → ℕ → ModelSource
 after_read source size =
-    if is_due source.calls source.fails then record source { calls = counted source.calls; faults = counted source.faults }
-    else record source { calls = counted source.calls; left = drop (read_count source size) source.left }
+    if is_due source.calls source.fails
+    then record source { calls = counted source.calls; faults = counted source.faults }
+    else record source {
+      calls = counted source.calls;
+      left = drop (read_count source size) source.left;
+    }
 
 -- the bytes written, the room left, the calls that are to fail, the calls made and the faults
 pub record ModelSink : Type 0 where
@@ -59,5 +66,10 @@ write_answer sink piece = if write_fails sink piece then Err (record {}) else Ok
 -- the sink after that write
 abbrev pub after_write : ModelSink → List ℕ → ModelSink
 after_write sink piece =
-    if write_fails sink piece then record sink { calls = counted sink.calls; faults = counted sink.faults }
-    else record sink { calls = counted sink.calls; written = sink.written ++ piece; room = sink.room - length piece }
+    if write_fails sink piece
+    then record sink { calls = counted sink.calls; faults = counted sink.faults }
+    else record sink {
+      calls = counted sink.calls;
+      written = sink.written ++ piece;
+      room = sink.room - length piece;
+    }

@@ -1,5 +1,5 @@
-ghost use Rattle.std.specs.Prelude.{◌≡◌, ◌≤◌, ◌+◌, ◌++◌, length, Some, IfOk, ◌<◌, vec_len, vec_capacity};
-ghost use Rattle.std.specs.Io.KnownBytes.{WriteAppends};
+ghost use Rattle.std.specs.Prelude.{◌≡◌, ◌≤◌, ◌+◌, ◌++◌, length, Some, IfOk, ◌<◌, vec_len, vec_capacity, IsOk};
+ghost use Rattle.std.specs.Io.KnownBytes.{Keeps, WriteAppends};
 ghost use Rattle.outside_io.specs.Outside.{HasCause, WritesSome};
 ghost use Rattle.outside_io.specs.Memory.{write_answer, after_write};
 
@@ -24,7 +24,13 @@ impl Model for MemSink {
 
     ghost Value = { ModelSink };
 
-    ghost view = { λ s. record { written = s.bytes.items; room = s.room; fails = s.fails; calls = s.calls; faults = s.faults } };
+    ghost view = { λ s. record {
+      written = s.bytes.items;
+      room = s.room;
+      fails = s.fails;
+      calls = s.calls;
+      faults = s.faults;
+    } };
 
     ghost invariant = { λ s. vec_len s.bytes + s.room ≤ vec_capacity s.bytes };
 }
@@ -66,7 +72,8 @@ impl Sink for MemSink {
         ensures answer { result ≡ write_answer self.old piece.now }
         ensures state { self.new ≡ after_write self.old piece.now }
         ensures some { WritesSome result piece.now }
-        ensures bytes { WriteAppends (Some self.old.written) (Some self.new.written) result piece.now }
+        ensures bytes { WriteAppends (Some self.old.written) (Some self.new.written)
+            result piece.now }
         ensures cause { HasCause self.old.faults self.new.faults result }
     {
         let due = is_due(self.calls, &self.fails);
@@ -78,6 +85,16 @@ impl Sink for MemSink {
         put(&mut self.bytes, piece);
         self.room -= piece.len();
         Ok(piece.len())
+    }
+
+    /// It gathers nothing, so there is nothing to do, and no call is counted.
+    fn send_out(&mut self) -> Result<(), Failed>
+        ensures ok { IsOk result }
+        ensures state { self.new ≡ self.old }
+        ensures bytes { Keeps (Some self.old.written) (Some self.new.written) }
+        ensures cause { HasCause self.old.faults self.new.faults result }
+    {
+        Ok(())
     }
 }
 

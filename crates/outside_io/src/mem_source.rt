@@ -26,7 +26,13 @@ impl Model for MemSource {
 
     ghost Value = { ModelSource };
 
-    ghost view = { λ s. record { left = drop s.at s.bytes; most = s.most; fails = s.fails; calls = s.calls; faults = s.faults } };
+    ghost view = { λ s. record {
+      left = drop s.at s.bytes;
+      most = s.most;
+      fails = s.fails;
+      calls = s.calls;
+      faults = s.faults;
+    } };
 
     ghost invariant = { λ s. (s.at ≤ length s.bytes) × (1 ≤ s.most) };
 }

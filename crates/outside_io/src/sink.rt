@@ -1,15 +1,15 @@
 ghost use Rattle.std.specs.Prelude.{ℕ, List, Option, ◌<◌, length};
-ghost use Rattle.std.specs.Io.KnownBytes.{WriteAppends};
+ghost use Rattle.std.specs.Io.KnownBytes.{Keeps, WriteAppends};
 ghost use Rattle.outside_io.specs.Outside.{HasCause, WritesSome};
 
 use crate::Failed;
 
-/// Where bytes go.
+/// Where bytes go. A sink may gather what is written; all of it is out once `send_out` is Ok.
 pub trait Sink {
     /// The bytes written, where the sink tells them.
     ghost written: { Self → Option (List ℕ) };
 
-    /// How often a write has failed.
+    /// How often a write has failed, or the sending out of what was gathered.
     ghost faults: { Self → ℕ };
 
     /// Writes the first bytes of the piece, at least one, and says how many they are. After
@@ -18,5 +18,10 @@ pub trait Sink {
         requires { 0 < length piece.now }
         ensures some { WritesSome result piece.now }
         ensures bytes { WriteAppends (written self.old) (written self.new) result piece.now }
+        ensures cause { HasCause (faults self.old) (faults self.new) result };
+
+    /// Sends out what was gathered, before a read and at an end. What was written stays.
+    fn send_out(&mut self) -> Result<(), Failed>
+        ensures bytes { Keeps (written self.old) (written self.new) }
         ensures cause { HasCause (faults self.old) (faults self.new) result };
 }

@@ -1,7 +1,12 @@
-ghost use Rattle.std.specs.Prelude.{◌≡◌};
+ghost use Rattle.std.specs.Prelude.{◌≡◌, [], IfOk, OnOk};
+ghost use Rattle.std.specs.Io.Buffered.{writer_buffer, writer_contents};
+ghost use Rattle.std.specs.Io.KnownBytes.{Keeps};
+ghost use Rattle.outside_io.specs.Outside.{HasCause};
 
 use crate::{Failed, Sink, Source};
-use std::io::{Read, Write};
+use std::alloc::Global;
+use std::io::{BufWriter, Read, Write};
+use wsrep_base::NoMemory;
 
 /// A reader of std as a source. It counts its failures; the counter stands still at its end.
 #[derive(Drop)]
@@ -36,33 +41,54 @@ impl<R: Read> Source for StdSource<R> {
     }
 }
 
-/// A writer of std as a sink. It counts its failures; the counter stands still at its end.
+/// A writer of std as a sink. It gathers what is written and writes it in large pieces. It counts
+/// its failures; the counter stands still at its end.
 #[derive(Drop)]
-pub struct StdSink<W: Write> {
-    writer: W,
+pub struct StdSink<W: Write + Drop> {
+    writer: BufWriter<W>,
     faults: u64,
 }
 
-impl<W: Write> StdSink<W> {
-    /// The sink with no failure so far.
-    pub fn new(writer: W) -> StdSink<W>
-        ensures written { ⟦<StdSink<W> as Sink>⟧.written result ≡ W.contents writer }
-        ensures faults { ⟦<StdSink<W> as Sink>⟧.faults result ≡ 0 }
+impl<W: Write + Drop> StdSink<W> {
+    /// The sink with nothing gathered and no failure so far.
+    pub fn new(alloc: Global, writer: W) -> Result<StdSink<W>, NoMemory>
+        ensures written { IfOk result (λ sink.
+            ⟦<StdSink<W> as Sink>⟧.written sink ≡ W.contents writer) }
+        ensures faults { IfOk result (λ sink. ⟦<StdSink<W> as Sink>⟧.faults sink ≡ 0) }
     {
-        StdSink { writer, faults: 0 }
+        match BufWriter::new(alloc, writer) {
+            Ok(writer) => Ok(StdSink { writer, faults: 0 }),
+            Err(_) => Err(NoMemory),
+        }
     }
 }
 
-impl<W: Write> Sink for StdSink<W> {
-    ghost written = { λ sink. W.contents sink.writer };
+impl<W: Write + Drop> Sink for StdSink<W> {
+    ghost written = { λ sink. writer_contents W.contents sink.writer };
 
     ghost faults = { λ sink. sink.faults };
 
-    /// A write that takes no byte is a failure too.
+    /// A write that takes no byte is a failure too, and so is one of what was gathered before.
     fn write(&mut self, piece: &[u8]) -> Result<usize, Failed> {
         match self.writer.write(piece) {
             Ok(count) if count > 0 => Ok(count),
             _ => {
+                self.faults = self.faults.saturating_add(1);
+                Err(Failed)
+            }
+        }
+    }
+
+    /// After Ok nothing is left that was gathered.
+    fn send_out(&mut self) -> Result<(), Failed>
+        ensures bytes { Keeps (writer_contents W.contents self.old.writer)
+            (writer_contents W.contents self.new.writer) }
+        ensures cause { HasCause self.old.faults self.new.faults result }
+        ensures out { OnOk result (writer_buffer self.new.writer ≡ []) }
+    {
+        match self.writer.flush() {
+            Ok(()) => Ok(()),
+            Err(_) => {
                 self.faults = self.faults.saturating_add(1);
                 Err(Failed)
             }
