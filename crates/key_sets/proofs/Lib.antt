@@ -12,3 +12,4 @@ pub mod CoverLaws
 pub mod KeyLaws
 pub mod Examples
 pub mod AllLemmas
+pub mod WalkLemmas

@@ -1,5 +1,6 @@
-ghost use Rattle.std.specs.Prelude.{◌≡◌, ◌↔◌, ◌<◌, ◌≤◌, None, IfOk, OnOk, OnErr, IsErrOf, IsOk, IsTrue};
+ghost use Rattle.std.specs.Prelude.{◌≡◌, ◌↔◌, ◌<◌, ◌≤◌, None, IfOk, OnOk, OnErr, IsErrOf, IsOk, IsTrue, IsPermutation};
 ghost use Rattle.std.specs.List.{list_all};
+ghost use Rattle.std.specs.Map.Iter.{ShowsInOrder, deref_pair};
 ghost use Rattle.finite_map.specs.FiniteMap as map;
 ghost use Rattle.key_sets.specs.Keys as keys;
 
@@ -10,6 +11,7 @@ use crate::kind::Kind;
 use crate::parts::Parts;
 use crate::test::{PartsTest, all_admitted};
 use indexmap::IndexMap;
+use indexmap::map::Iter;
 use item_list::ItemList;
 pub use meeting::{conflicts, meet, touches};
 use std::alloc::{AllocError as NoMemory, Global};
@@ -105,6 +107,14 @@ impl KeySet {
     /// The allocator that the set grows by.
     pub fn alloc(&self) -> Global {
         *self.kinds.allocator()
+    }
+
+    /// Each key once, in no certain order. It takes no memory.
+    pub fn iter(&self) -> Iter<'_, Parts, Kind>
+        ensures keys { IsPermutation self.now.entries result }
+        ensures runs { ShowsInOrder (deref_pair {K = Parts} {X = Kind}) }
+    {
+        self.kinds.iter()
     }
 
     /// The keys in the order of their parts: by table, a table before its rows, then by row.
