@@ -11,7 +11,8 @@ entry_size event = 24 + event_len event
 
 -- what the entry of an event leaves of a size; None where it is larger
 abbrev pub room_beside : ℕ → Event → Option ℕ
-room_beside size event = if nat_le (entry_size event) size then Some (size - entry_size event) else None
+room_beside size event =
+    if nat_le (entry_size event) size then Some (size - entry_size event) else None
 
 -- what the entries of these events sum to
 abbrev pub total : List Event → ℕ
@@ -21,7 +22,8 @@ total (event ∷ events) = entry_size event + total events
 -- the longest suffix whose entries sum to at most the size
 abbrev pub held : ℕ → List Event → List Event
 held size [] = []
-held size (event ∷ events) = if nat_le (total (event ∷ events)) size then event ∷ events else held size events
+held size (event ∷ events) =
+    if nat_le (total (event ∷ events)) size then event ∷ events else held size events
 
 pub record Ring : Type 0 where
   -- the most that the entries may sum to
@@ -37,7 +39,8 @@ empty_ring size at = record { size = size; last = at; events = [] }
 
 -- one more event is pushed
 abbrev pub with_event : Ring → Event → Ring
-with_event ring event = record ring { last = ring.last + 1; events = held ring.size (ring.events ++ event ∷ []) }
+with_event ring event =
+    record ring { last = ring.last + 1; events = held ring.size (ring.events ++ event ∷ []) }
 
 -- the numbers of the oldest and the youngest of these events
 abbrev pub range_to : ℕ → List Event → Option (ℕ × ℕ)
@@ -51,7 +54,8 @@ range_of ring = range_to ring.last ring.events
 abbrev pub copy_in : Option (ℕ × ℕ) → List Event → ℕ → Result (List Event) CopyFault
 copy_in None events from = Err (NotHeld None)
 copy_in (Some range) events from =
-    if nat_le range.0 from && nat_le from range.1 then Ok (drop (from - range.0) events) else Err (NotHeld (Some range.0))
+    if nat_le range.0 from && nat_le from range.1
+    then Ok (drop (from - range.0) events) else Err (NotHeld (Some range.0))
 
 abbrev pub copy_of : Ring → ℕ → Result (List Event) CopyFault
 copy_of ring from = copy_in (range_of ring) ring.events from

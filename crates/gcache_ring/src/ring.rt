@@ -34,9 +34,16 @@ impl Model for Ring {
 
     ghost Value = { Seen };
 
-    ghost view = { λ ring. record { size = ring.size; last = ring.last; events = ring.events.items } };
+    ghost view = { λ ring. record {
+      size = ring.size;
+      last = ring.last;
+      events = ring.events.items;
+    } };
 
-    ghost invariant = { λ ring. (ring.used ≡ total ring.events.items) × (ring.used ≤ ring.size) × (length ring.events.items ≤ ring.last) × AllByRecursion HasFewMembers ring.events.items };
+    ghost invariant = { λ ring. (ring.used ≡ total ring.events.items)
+        × (ring.used ≤ ring.size)
+        × (length ring.events.items ≤ ring.last)
+        × AllByRecursion HasFewMembers ring.events.items };
 }
 
 impl Ring {

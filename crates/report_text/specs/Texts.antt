@@ -90,7 +90,8 @@ answer_text (answer.Status taken certified committed floor entries open_trx) =
     codes "STATUS" ++ spaced (taken ∷ certified ∷ committed ∷ floor ∷ entries ∷ open_trx ∷ [])
 answer_text (answer.Left n) = codes "LEFT" ++ spaced (n ∷ [])
 answer_text answer.StillJoined = codes "STILL JOINED"
-answer_text (answer.NotDrained taken committed) = codes "NOT DRAINED" ++ spaced (taken ∷ committed ∷ [])
+answer_text (answer.NotDrained taken committed) =
+    codes "NOT DRAINED" ++ spaced (taken ∷ committed ∷ [])
 answer_text (answer.Joining view member) =
     codes "JOINING" ++ spaced (view ∷ []) ++ codes " MEMBER" ++ spaced (member ∷ [])
 answer_text answer.NotJoining = codes "NOT JOINING"
@@ -108,9 +109,11 @@ line_text number said = decimal number ++ codes " " ++ answer_text said ++ codes
 -- the line of a row: where it stands, and its values
 abbrev pub row_text : RowItem → List ℕ
 row_text item =
-    codes "row " ++ name_text item.id.table ++ codes " " ++ name_text item.id.row ++ spaced item.row ++ codes "\n"
+    codes "row " ++ name_text item.id.table ++ codes " " ++ name_text item.id.row ++ spaced item.row
+    ++ codes "\n"
 
 -- the lines of a node: how far it has committed, and the committed rows
 unfoldable pub node_text : ℕ → ℕ → List RowItem → List ℕ
 node_text node at rows =
-    codes "node" ++ spaced (node ∷ []) ++ codes " at" ++ spaced (at ∷ []) ++ codes "\n" ++ flat_map row_text rows
+    codes "node" ++ spaced (node ∷ []) ++ codes " at" ++ spaced (at ∷ []) ++ codes "\n"
+    ++ flat_map row_text rows

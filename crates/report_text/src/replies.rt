@@ -46,7 +46,8 @@ pub(crate) fn append_judged(
 
 // A write set that passed, and what it was.
 fn append_passed(text: &mut ByteList, number: u64, kind: &[u8]) -> Result<(), NoMemory>
-    ensures { OnOk result (text.new ≡ text.old ++ (codes "PASS" ++ spaced (number ∷ []) ++ kind.now)) }
+    ensures { OnOk result
+        (text.new ≡ text.old ++ (codes "PASS" ++ spaced (number ∷ []) ++ kind.now)) }
 {
     append_words(text, b"PASS", &[number])?;
     text.extend(kind)
