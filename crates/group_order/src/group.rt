@@ -29,7 +29,8 @@ pub trait Group: Drop {
     /// the order is the same.
     fn order(&mut self, member: u32, message: &Message) -> Result<u64, GroupFault>
         requires { length (order self.old) < 500_000 }
-        ensures ok { OnOk result (order self.new ≡ order self.old ++ event_of member message.now ∷ []) }
+        ensures ok { OnOk result
+            (order self.new ≡ order self.old ++ event_of member message.now ∷ []) }
         ensures number { IfOk result (λ number. number ≡ length (order self.new)) }
         ensures err { OnErr result (order self.new ≡ order self.old) }
         ensures cause { HasCause (faults self.old) (faults self.new) result };

@@ -38,7 +38,8 @@ impl MemGroup {
     pub fn new(alloc: Global, members: u32) -> Result<MemGroup, NoMemory>
         requires some { 1 ≤ members }
         requires few { members ≤ 9 }
-        ensures order { IfOk result (λ group. ⟦<MemGroup as Group>⟧.order group ≡ start_order members) }
+        ensures order { IfOk result (λ group.
+            ⟦<MemGroup as Group>⟧.order group ≡ start_order members) }
         ensures faults { IfOk result (λ group. ⟦<MemGroup as Group>⟧.faults group ≡ 0) }
     {
         let mut events = EventList::new(alloc);

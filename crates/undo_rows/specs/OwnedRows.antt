@@ -1,4 +1,5 @@
--- rows that have one owner each, in a hashed table; each row leads to the one that its owner got before it
+-- rows that have one owner each, in a hashed table; each row leads to the one that its owner got
+-- before it
 use Rattle.std.specs.Prelude.{◌≡◌, ℕ, ◌<◌, ◌==◌, List, length, Option, Some, None, refl, if◌then◌else◌}
 use Rattle.std.specs.Coded.{Coded, code_by, coded×, coded_ℕ}
 use Rattle.std.specs.List.{slice_index_or}
@@ -41,6 +42,8 @@ before_in None newest = newest
 before_in (Some entry) newest = entry.before
 
 -- each owner's newest row leads through all its rows
-pub record AreLinked (entries : List (RowId × OwnedRow)) (newest : List (Option RowId)) : Type 0 where
+pub record AreLinked (entries : List (RowId × OwnedRow))
+    (newest : List (Option RowId)) : Type 0 where
   pub owners : length newest ≡ 256
-  pub linked : (owner : ℕ) → owner < 256 → Linked (links entries owner) (slice_index_or newest owner None)
+  pub linked : (owner : ℕ) → owner < 256
+      → Linked (links entries owner) (slice_index_or newest owner None)

@@ -1,4 +1,5 @@
--- committed rows, and changes of them that are not committed yet, each by the one owner that made it
+-- committed rows, and changes of them that are not committed yet, each by the one owner that made
+-- it
 use Rattle.std.specs.Prelude.{ℕ, ◌==◌, Bool, false, not, List, map, Option, Some, None, if◌then◌else◌}
 use Rattle.std.specs.Coded.{Coded, code_by, coded×, coded_ℕ, coded_list, coded_option}
 use Rattle.std.specs.Prelude.{refl}
@@ -63,7 +64,8 @@ written_unless None table owner op =
 
 -- a row that another owner has changed stays; else the owner has the row after the change
 abbrev pub written : RowTable → ℕ → Op → Written × Changes
-written table owner op = written_unless (other_owner owner (get table.changes (id_of op))) table owner op
+written table owner op =
+    written_unless (other_owner owner (get table.changes (id_of op))) table owner op
 
 -- the changes of all other owners
 abbrev pub without : Changes → ℕ → Changes

@@ -34,7 +34,11 @@ impl Model for Overlay {
 
     ghost coded = { coded_row_table };
 
-    ghost view = { λ o. record { committed = rows_in o.rows.entries; changes = o.changes.changes; spare = min o.changes.spare (spare o.rows - o.changes.count) } };
+    ghost view = { λ o. record {
+      committed = rows_in o.rows.entries;
+      changes = o.changes.changes;
+      spare = min o.changes.spare (spare o.rows - o.changes.count);
+    } };
 
     ghost invariant = { λ o. o.changes.count ≤ spare o.rows };
 }

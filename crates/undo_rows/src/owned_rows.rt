@@ -41,7 +41,11 @@ impl Model for OwnedRows {
     ghost use Rattle.std.specs.HashMap.{hash_map_len, spare};
     ghost use Rattle.undo_rows.specs.OwnedRows.{changes_in, AreLinked};
 
-    ghost view = { λ rows. record { changes = changes_in rows.table.entries; count = hash_map_len rows.table; spare = spare rows.table } };
+    ghost view = { λ rows. record {
+      changes = changes_in rows.table.entries;
+      count = hash_map_len rows.table;
+      spare = spare rows.table;
+    } };
 
     ghost invariant = { λ rows. AreLinked rows.table.entries rows.newest.items };
 }
@@ -140,8 +144,10 @@ impl OwnedRows {
 
     /// Takes out the row that the owner got last. None where it has none.
     pub fn take_newest(&mut self, owner: u8) -> Option<(RowId, Option<Row>)>
-        ensures none { IfNone result ((id : RowId) → is_owned_by owner (get self.old.changes id) ≡ false) }
-        ensures was { IfSome result (λ taken. get self.old.changes taken.0 ≡ Some (owner, taken.1)) }
+        ensures none { IfNone result
+            ((id : RowId) → is_owned_by owner (get self.old.changes id) ≡ false) }
+        ensures was { IfSome result (λ taken.
+            get self.old.changes taken.0 ≡ Some (owner, taken.1)) }
         ensures now { IfSome result (λ taken. self.new.changes ≡ remove self.old.changes taken.0) }
         ensures unchanged { IfNone result (self.new.changes ≡ self.old.changes) }
         ensures count { self.new.count + length (option_to_list result) ≡ self.old.count }
@@ -174,7 +180,8 @@ fn before_of(
     owner: u8,
 ) -> Option<RowId>
     requires { length newest.now ≡ 256 }
-    ensures { result ≡ before_in (lookup (row_eq id.now) table.now.entries) (slice_index_or newest.now owner None) }
+    ensures { result ≡ before_in (lookup (row_eq id.now) table.now.entries)
+        (slice_index_or newest.now owner None) }
 {
     match table.get(id) {
         Some(entry) => entry.before,

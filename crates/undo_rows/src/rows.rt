@@ -21,13 +21,16 @@ pub trait Rows {
 
     /// Changes a row for an owner, unless another one has changed it.
     fn write(&mut self, owner: u8, op: &Op) -> Result<Written, NoMemory>
-        ensures ok { IfOk result (λ outcome. (outcome, (table self.new).changes) ≡ written (table self.old) owner op.now) }
+        ensures ok { IfOk result (λ outcome.
+            (outcome, (table self.new).changes) ≡ written (table self.old) owner op.now) }
         ensures err { OnErr result ((table self.new).changes ≡ (table self.old).changes) }
-        ensures owned { OnErr result (other_owner owner (get (table self.old).changes (id_of op.now)) ≡ None) }
+        ensures owned { OnErr result
+            (other_owner owner (get (table self.old).changes (id_of op.now)) ≡ None) }
         ensures committed { (table self.new).committed ≡ (table self.old).committed }
         ensures succeeds { 0 < (table self.old).spare → IsOk result }
         ensures spare { (table self.old).spare ≤ (table self.new).spare + 1 }
-        ensures refused { IsSome (other_owner owner (get (table self.old).changes (id_of op.now))) → (table self.old).spare ≤ (table self.new).spare };
+        ensures refused { IsSome (other_owner owner (get (table self.old).changes (id_of op.now)))
+            → (table self.old).spare ≤ (table self.new).spare };
 
     /// Drops an owner's changes.
     fn roll_back(&mut self, owner: u8)
@@ -37,7 +40,8 @@ pub trait Rows {
 
     /// Commits an owner's changes: each row is from then on what its owner saw.
     fn keep(&mut self, owner: u8)
-        ensures committed { (id : RowId) → get (table self.new).committed id ≡ seen (table self.old) owner id }
+        ensures committed { (id : RowId)
+            → get (table self.new).committed id ≡ seen (table self.old) owner id }
         ensures changes { (table self.new).changes ≡ without (table self.old).changes owner }
         ensures spare { (table self.old).spare ≤ (table self.new).spare };
 
@@ -52,7 +56,8 @@ pub trait Rows {
     fn put(&mut self, id: &RowId, row: Option<Row>)
         requires spare { 0 < (table self.old).spare }
         requires free { get (table self.old).changes id.now ≡ None }
-        ensures committed { (table self.new).committed ≡ with_row (table self.old).committed id.now row }
+        ensures committed { (table self.new).committed
+            ≡ with_row (table self.old).committed id.now row }
         ensures changes { (table self.new).changes ≡ (table self.old).changes }
         ensures spare { (table self.old).spare ≤ (table self.new).spare + 1 };
 

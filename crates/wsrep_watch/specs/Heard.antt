@@ -4,7 +4,8 @@ use Rattle.wsrep_watch.specs.declared.note.Note.{Note}
 
 -- notes that are told after one more were told before it, and have it at their end
 abbrev pub Gains : Option (List Note) → Note → Option (List Note) → Type 0
-Gains before note now = IfSome now (λ notes. (old : List Note) × (before ≡ Some old) × (notes ≡ old ++ note ∷ []))
+Gains before note now =
+    IfSome now (λ notes. (old : List Note) × (before ≡ Some old) × (notes ≡ old ++ note ∷ []))
 
 -- an end that is told is at this number
 abbrev pub EndsAt : ℕ → Option (Option ℕ) → Type 0
