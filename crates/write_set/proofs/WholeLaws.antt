@@ -3,12 +3,13 @@ use Rattle.std.proofs.Common.{◌≡◌, ℕ, ◌+◌, ◌^◌, ◌<◌, ◌≤�
 use Rattle.std.specs.Prelude.{◌==◌, ◌||◌, ◌&&◌, not, nat_le, is_none, IfOk}
 use Rattle.std.specs.Int.{w32, w64, to_be_bytes}
 use Rattle.std.specs.List.{list_all, flat_map, AllByRecursion}
+use Rattle.std.specs.Result.{result_ok}
 use Rattle.std.proofs.lemmas.Bool.{ltb-false, leb-true, le-leb, eqb-true}
 use Rattle.std.proofs.lemmas.List.{append-nil, nil_from_length}
 use Rattle.finite_map.specs.FiniteMap.{len}
 use Rattle.key_sets.specs.Keys.{Keys}
 use Rattle.row_model.specs.declared.ops.Op.{Op}
-use Rattle.write_set.specs.declared.fault.WsFault.TheVariants.{Short}
+use Rattle.write_set.specs.declared.fault.WsFault.TheVariants.{Short, Trailing}
 use Rattle.write_set.specs.declared.rules.TheConstants.{MOST_OPS}
 use Rattle.write_set.specs.declared.fault.WsFault.{WsFault}
 use Rattle.write_set.specs.declared.write_set.Header.{Header}
@@ -17,7 +18,7 @@ use Rattle.write_set.specs.Rules.{flags_fit, op_fits, OpInRange, uncovered_from,
 use Rattle.write_set.specs.Spelling.{keys_text, op_text, ops_text, spelling}
 use Rattle.write_set.specs.Laws.{IsSpelled}
 use Rattle.write_set.specs.Place.{Place, place_in}
-use Rattle.write_set.specs.Reading.{◌>>=◌, Gives, op_at, ops_at, header_at, covered, write_set_of, finished, read}
+use Rattle.write_set.specs.Reading.{◌>>=◌, Gives, op_at, keys_at, ops_at, header_at, covered, write_set_of, finished, read, decoded, begin_of_end, begin_in, commit_begin}
 use Rattle.write_set.proofs.RulesOf.{both, and, Rules, rules_of, obeyed}
 use Rattle.write_set.proofs.Bounds.{is_not, above}
 use Rattle.wsrep_base.proofs.Fields.{IsBytes, read_ok, passed, ok_is, place, Took, took_then, number_takes, number_again, wide32, wide64, byte_takes, byte_again}
@@ -247,3 +248,23 @@ read_again w range h =
 pub is_found : (bytes : List ℕ) (result : Result WriteSet WsFault) → IsBytes bytes → Gives (λ w. w) result (read bytes) → IfOk result (λ w. IsSpelled bytes w)
 is_found bytes (Ok w) fits is = read_takes bytes w fits is
 is_found bytes (Err fault) fits is = tt
+
+-- ---- the begin number of a commit
+
+read_as : (r : Result WriteSet WsFault) (w : WriteSet) → result_ok r ≡ Some w → r ≡ Ok w
+read_as (Ok x) w is = cc
+read_as (Err fault) w is = absurd cc
+
+begin_from : (bytes : List ℕ) (w : WriteSet) → read bytes ≡ Ok w → commit_begin bytes ≡ begin_of_end w.flags w.begin
+unfolding read finished commit_begin
+begin_from bytes w e =
+    let a = read_ok Header (header_at (place_in bytes 0)) _ w e in
+    let b = read_ok Keys (keys_at a.0.1) _ w a.2 in
+    let c = read_ok (List Op) (ops_at (a.0.0.flags == 4) (not (len b.0.0 == 0)) b.0.1) _ w b.2 in
+    let d = passed (not (length c.0.1.left == 0)) (Trailing c.0.1.at) _ w c.2 in
+    let f = all_covered (uncovered_from 0 b.0.0 c.0.0) _ w d.1 in
+    ap begin_in a.1 ∙ ap (λ (x : WriteSet). begin_of_end x.flags x.begin) (ok_is (write_set_of a.0.0 b.0.0 c.0.0) w f.1)
+
+-- of the bytes of a write set it is what the write set says
+pub begin_is : (bytes : List ℕ) (w : WriteSet) → decoded bytes ≡ Some w → commit_begin bytes ≡ begin_of_end w.flags w.begin
+begin_is bytes w is = begin_from bytes w (read_as (read bytes) w is)

@@ -226,6 +226,18 @@ read bytes = do
 abbrev pub decoded : List ℕ → Option WriteSet
 decoded bytes = result_ok (read bytes)
 
+-- the begin number that stands beside the flags of a commit
+abbrev pub begin_of_end : ℕ → ℕ → Option ℕ
+begin_of_end flags begin = if flags == 2 || flags == 3 then Some begin else None
+
+abbrev pub begin_in : Read Header → Option ℕ
+begin_in (Ok head) = begin_of_end head.0.flags head.0.begin
+begin_in (Err fault) = None
+
+-- the begin number of the transaction whose commit the fields before the keys say it is
+unfoldable pub commit_begin : List ℕ → Option ℕ
+commit_begin bytes = begin_in (header_at (place_in bytes 0))
+
 -- what a function returned, seen by a view, is what is read, unless memory ran out
 abbrev pub Fails : {Y : Type 0} → WsFault → Result Y WsFault → Type 0
 Fails NoMemory reading = Unit {0}

@@ -17,7 +17,7 @@ pub use fault::{Cursor, WsFault};
 pub use keys::{key_of, keys_of, put_all_keys};
 pub use laws::one_spelling;
 pub use names::{NameRole, name_of};
-pub use reading::{decode, read_keys, read_ops};
+pub use reading::{commit_begin, decode, read_keys, read_ops};
 pub use rules::{END, MOST_OPS, ROLLBACK, START, is_valid};
 pub use write_set::WriteSet;
 pub use writing::{encode, put_keys, put_ops};

@@ -1,6 +1,7 @@
 //! Reading a write set, or a part of one, from bytes.
 
-ghost use Rattle.std.specs.Prelude.{◌≡◌, ◌≤◌, ◌++◌, false, List, ℕ, length, drop, IfOk};
+ghost use Rattle.std.specs.Prelude.{◌≡◌, ◌≤◌, ◌++◌, false, List, ℕ, length, drop, Some, IfOk};
+ghost use Rattle.wsrep_base.specs.Reading.{Reads};
 ghost use Rattle.key_sets.specs.Keys.{Keys};
 ghost use Rattle.row_model.specs.declared.ops.Op.{Op};
 ghost use Rattle.write_set.specs.declared.write_set.WriteSet.{WriteSet};
@@ -8,12 +9,12 @@ ghost use Rattle.write_set.specs.Laws.{AreKeys, AreOps, IsSpelled, StandsBetween
 ghost use Rattle.write_set.specs.Rules.{InRange, KeysInRange, OpsInRange};
 ghost use Rattle.write_set.specs.Spelling.{keys_text, ops_text};
 ghost use Rattle.write_set.specs.Place.{place_in};
-ghost use Rattle.write_set.specs.Reading.{Gives, behind, header_at, keys_at, ops_at, finished, read};
+ghost use Rattle.write_set.specs.Reading.{Gives, behind, header_at, keys_at, ops_at, finished, read, decoded, begin_of_end, commit_begin};
 
 use crate::changes::ops_of;
 use crate::fault::{Cursor, WsFault};
 use crate::keys::keys_of;
-use crate::rules::{ROLLBACK, first_uncovered, flags_fit};
+use crate::rules::{END, ROLLBACK, START, first_uncovered, flags_fit};
 use crate::write_set::{Header, WriteSet};
 use crate::writing::VERSION;
 use key_sets::KeySet;
@@ -22,7 +23,8 @@ use std::alloc::Global;
 
 #[tactic(auto, unfolding(crate::specs::Reading::header_at))]
 fn header_of<'a>(cursor: Cursor<'a>) -> Result<(Header, Cursor<'a>), WsFault>
-    ensures { Gives (λ x. (x.0, x.1)) result (header_at cursor.entry) }
+    ensures exact { Reads (λ x. (x.0, x.1)) result (header_at cursor.entry) }
+    ensures gives { Gives (λ x. (x.0, x.1)) result (header_at cursor.entry) }
 {
     let (version, rest) = cursor.number8()?;
     if version != VERSION {
@@ -94,6 +96,38 @@ pub fn decode(alloc: Global, bytes: &[u8]) -> Result<WriteSet, WsFault>
     ensures exact { Gives (λ w. w) result (read bytes.now) }
 {
     read_all(alloc, bytes)
+}
+
+/// The begin number of the transaction whose commit the bytes spell; None where they spell another
+/// write set. The fields before the keys are read, and nothing behind them: it takes no memory.
+pub fn commit_begin(bytes: &[u8]) -> Option<u64>
+    // Of the bytes of a write set it is what the write set says.
+    ensures of_set { (w : WriteSet) → decoded bytes.now ≡ Some w
+        → result ≡ begin_of_end w.flags w.begin }
+    // What it is of any bytes.
+    ensures exact { result ≡ commit_begin bytes.now }
+{
+    header_begin(bytes)
+}
+
+#[tactic(auto, unfolding(crate::specs::Reading::commit_begin))]
+fn header_begin(bytes: &[u8]) -> Option<u64>
+    ensures { result ≡ commit_begin bytes.now }
+{
+    match header_of(Cursor::new(bytes, 0)) {
+        Ok((header, _)) => begin_of_end(header.flags, header.begin),
+        Err(_) => None,
+    }
+}
+
+fn begin_of_end(flags: u8, begin: u64) -> Option<u64>
+    ensures { result ≡ begin_of_end flags begin }
+{
+    if flags == END || flags == START + END {
+        Some(begin)
+    } else {
+        None
+    }
 }
 
 /// Reads a number of keys and the keys, from place `at` on. Gives them and the place behind them.
