@@ -124,6 +124,21 @@ module _ (n : ModelNode) where
         (left_remain.taken s t is (in_from_get n.live s t (left_remain.was s t is)));
   }
 
+  -- nothing else of the node changes
+  pub left_is : left_node n ≡ record n {
+    at = record n.at { phase = phase.Left };
+    ordered = [];
+    outbox = [];
+    live = (left_node n).live;
+    waiting = (left_node n).waiting;
+  }
+  unfolding left_node
+  left_is = ap (λ (m : ModelNode). record m {
+    at = record m.at { phase = phase.Left };
+    ordered = [];
+    outbox = [];
+  }) left_only
+
   -- it gives out nothing, and no session has a transaction while an answer waits for it
   pub left_at : (left_node n).at ≡ record n.at { phase = phase.Left }
   unfolding left_node

@@ -18,6 +18,7 @@ pub mod Sendable
 pub mod SentMoved
 pub mod FactsMoved
 pub mod Leaving
+pub mod LeftSessions
 pub mod StepFacts
 pub mod Works
 pub mod Waiting

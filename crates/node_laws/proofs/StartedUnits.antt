@@ -4,7 +4,6 @@ use Rattle.std.specs.Prelude.{is_some}
 use Rattle.std.specs.Ordering.{nat_cmp, eq_by_cmp}
 use Rattle.std.specs.Cmp.{nat_cmp_total}
 use Rattle.finite_map.proofs.Edits.{numbers, tied}
-use Rattle.finite_map.proofs.Edits.{numbers, tied}
 use Rattle.finite_map.specs.FiniteMap.{get, insert, get-insert}
 use Rattle.wsrep_base.specs.Trx.{greatest}
 use Rattle.key_sets.specs.Keys.{Keys}
@@ -18,6 +17,8 @@ use Rattle.node_meaning.specs.declared.progress.Stage.{Stage}
 use Rattle.node_meaning.specs.declared.progress.Stage.TheVariants.{Started, Finished}
 use Rattle.node_meaning.specs.Node.{ModelNode, ApplyUnit, passed_at, ahead, locks_of}
 use Rattle.node_meaning.specs.Steps.{is_started, is_started_stage, is_local, touching_before, start_after, start_unit, start_step, finish_stage, finish_unit, finish_step, is_finished, take_step, certify_step, advance_step, report_step}
+use Rattle.node_meaning.specs.Status.{status_step}
+use Rattle.node_meaning.specs.Leaving.{left_node}
 use Rattle.node_meaning.specs.Client.{client}
 use Rattle.node_meaning.specs.Facts.{Facts}
 use Rattle.node_meaning.proofs.StartFacts.{kills_units}
@@ -25,9 +26,10 @@ use Rattle.node_laws.proofs.Works.{units_kept, advance_unseen}
 use Rattle.node_laws.proofs.ClientMoves.{CanCall, client_moves}
 use Rattle.node_laws.proofs.TakeMoves.{take_moves}
 use Rattle.node_laws.proofs.CertifyMoves.{certify_moves}
-use Rattle.node_laws.proofs.ReportMoves.{report_moves}
+use Rattle.node_laws.proofs.ReportMoves.{report_moves, status_moves}
+use Rattle.node_laws.proofs.Leaving.{left_is}
 
--- ---- calls, taking and certifying leave the units
+-- ---- calls, taking, certifying, reports and leaving leave the units
 module _ (order : List Event) (n : ModelNode) where
   pub client_units : (session : ℕ) (call : Call) → (client order n session call).1.units ≡ n.units
   client_units session call = units_kept order (CanCall n call) n 1 _ (client_moves order false n session call)
@@ -40,6 +42,12 @@ module _ (order : List Event) (n : ModelNode) where
 
   pub report_units : (report_step n).1.units ≡ n.units
   report_units = units_kept order (Unit {0}) n 1 _ (report_moves order _ false n)
+
+  pub status_units : (status_step order n).1.units ≡ n.units
+  status_units = units_kept order (Unit {0}) n 1 _ (status_moves order _ false n)
+
+pub left_units : (n : ModelNode) → (left_node n).units ≡ n.units
+left_units n = ap (λ (m : ModelNode). m.units) (left_is n)
 
 -- ---- starting: the one new unit is started
 abbrev pub Starts : ℕ → Answer → ModelNode → ModelNode → Type 0

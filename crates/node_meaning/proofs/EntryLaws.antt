@@ -49,6 +49,11 @@ module _ {X : Type 0} where
       let less = both_true _ _ h in
       ap (λ b. cond b (Some e.1) (keyed p es)) (below_not_same (nat_cmp p e.0) less.0) ∙ below_none p es less.1
 
+  -- the key of the first entry is not behind it
+  pub none_later : (e : ℕ × X) (es : List (ℕ × X)) → T (is_sorted nat_cmp (e ∷ es))
+      → entries.find nat_cmp e.0 es ≡ None
+  none_later e es rising = below_none e.0 es (both_true _ _ rising).0
+
   not_here : (q : ℕ) (v : X) (e : ℕ × X) (es : List (ℕ × X)) (b : Bool) → eq_by_cmp nat_cmp q e.0 ≡ b
       → keyed e.0 es ≡ None → keyed q es ≡ Some v → cond b (Some e.1) (keyed q es) ≡ Some v
   not_here q v e es true same none h =
