@@ -41,7 +41,7 @@ ends_front (w ∷ a) b ends = (
   ends_front a b ends.1,
 )
 
--- what is pending, and what was seen ahead, is a front of what was; and fewer are live
+-- what holds of what is pending and of what was seen ahead holds of a front of each
 entered_front : (s : FoldState) (m v b serial p : ℕ) (live : FiniteMap nat_cmp Live)
     (a more : List WriteSet) (seen later : List ℕ)
     → Entered s m v b serial p live (a ++ more) (seen ++ later)
