@@ -1,6 +1,7 @@
 -- All answers that the sessions of a node were told along its course are right over the order at
 -- its end.
-use Rattle.std.proofs.Common.{◌≡◌, ℕ, zero, suc, ◌+◌, ◌≤◌, ◌<◌, ◌^◌, List, [], ◌∷◌, length, Option, Some, None, refl, sym, subst, ◌∙◌, arith}
+use Rattle.std.proofs.Common.{◌≡◌, ℕ, zero, suc, ◌+◌, ◌≤◌, ◌<◌, ◌^◌, Bool, false, List, [], ◌∷◌, length, Option, Some, None, refl, sym, subst, ◌∙◌, arith, true≢false}
+use Rattle.std.specs.Prelude.{is_some}
 use Rattle.std.specs.Ordering.{nat_cmp}
 use Rattle.finite_map.specs.FiniteMap.{FiniteMap, empty, get, get-empty}
 use Rattle.row_model.specs.declared.calls.Call.{Call}
@@ -25,23 +26,26 @@ use Rattle.answer_laws.proofs.RightAnswers.{RightSoFar, moved_claim, next_right,
 abbrev Askers : Type 0
 Askers = FiniteMap nat_cmp Asker
 
-bare_right : (order : List Event) (p : ℕ) (a : Asker) (r : Reply) → IsBare r → IsRight order p a r
-bare_right order p a (reply.Committed n) bare = absurd bare
-bare_right order p a (reply.DeadlockCert v) bare = absurd bare
-bare_right order p a (reply.DeadlockBf v) bare = absurd bare
-bare_right order p a reply.RolledBack bare = absurd bare
-bare_right order p a _ bare = tt
+bare_right : (order : List Event) (p : ℕ) (a : Asker) (waited : Bool) (r : Reply)
+    → IsBare waited r → IsRight order p a waited r
+bare_right order p a waited (reply.Committed n) bare = absurd bare
+bare_right order p a waited (reply.DeadlockCert v) bare = absurd bare
+bare_right order p a waited (reply.DeadlockBf v) bare = absurd bare
+bare_right order p a waited reply.RolledBack bare = absurd bare
+bare_right order p a waited reply.Disconnected bare = λ has. absurd (true≢false (sym has ∙ bare))
+bare_right order p a waited _ bare = tt
 
-bare_to : (order : List Event) (p : ℕ) (o : Option Asker) (r : Reply) → IsBare r
-    → IsRightTo order p o r
-bare_to order p None r bare = bare
-bare_to order p (Some a) r bare = bare_right order p a r bare
+bare_to : (order : List Event) (p : ℕ) (o : Option Asker) (waited : Bool) (r : Reply)
+    → IsBare waited r → IsRightTo order p o waited r
+bare_to order p None waited r bare = bare
+bare_to order p (Some a) waited r bare = bare_right order p a waited r bare
 
 -- what a call is told: nothing of a transaction, or a claim of the session's
-pub data Says (order : List Event) (m : ModelNode) (p : ℕ) (o : Option Asker) (r : Reply)
-    : Type 0 where
-  Nothing : IsBare r → Says order m p o r
-  Something : (a : Asker) → o ≡ Some a → Claim order m a r → IsWithin p r → Says order m p o r
+pub data Says (order : List Event) (m : ModelNode) (p : ℕ) (o : Option Asker) (waited : Bool)
+    (r : Reply) : Type 0 where
+  Nothing : IsBare waited r → Says order m p o waited r
+  Something : (a : Asker) → o ≡ Some a → Claim order m a r → IsWithin p r
+      → Says order m p o waited r
 
 -- a claim that waits is not above what is committed
 within_of : (order : List Event) (n : ModelNode) (a : Asker) (r : Reply) → Claim order n a r
@@ -60,7 +64,8 @@ module _ (member most : ℕ) (small : member < 2 ^ 32) (few : most ≤ 2 ^ 63) (
 
   module _ (fits : Fits c x) (short : length c.order ≤ 2 ^ 63) where
     answered : (o : Option Live) → get c.node.live s ≡ o → (m : ModelNode) (r : Reply)
-        → Answered c.order c.node m o r → Says c.order m c.node.at.committed (get askers s) r
+        → Answered c.order c.node m o r
+        → Says c.order m c.node.at.committed (get askers s) false r
     answered o there m r (Bare bare) = Nothing bare
     answered o there m r (Claims t is claim within) =
         Something (asker_of t) (h.waits.asked s t (there ∙ is)) claim within
@@ -70,7 +75,7 @@ module _ (member most : ℕ) (small : member < 2 ^ 32) (few : most ≤ 2 ^ 63) (
 
     first_says : (o : Option Reply) → get c.node.waiting s ≡ o
         → (told_first c.node s o otherwise).1 ≡ after
-        → Says c.order after c.node.at.committed (get askers s)
+        → Says c.order after c.node.at.committed (get askers s) (is_some o)
         (told_first c.node s o otherwise).0
     first_says (Some r) there is =
         let w = h.waits.claims s r there in
@@ -78,13 +83,13 @@ module _ (member most : ℕ) (small : member < 2 ^ 32) (few : most ≤ 2 ^ 63) (
         (within_of c.order c.node w.0 r w.2)
     first_says None there is =
         let r = range member most small few c.order c.node h.kept h.past None tt short in
-        subst (λ m. Says c.order m c.node.at.committed (get askers s) otherwise.0) is
+        subst (λ m. Says c.order m c.node.at.committed (get askers s) false otherwise.0) is
         (answered (get c.node.live s) refl otherwise.1 otherwise.0
         (asked_told c.order c.node h.kept.follows.facts h.past s (λ t _. r) (get c.node.live s)
         call refl))
 
     pub call_says : Says c.order after c.node.at.committed (get askers s)
-        (client c.order c.node s call).0
+        (is_some (get c.node.waiting s)) (client c.order c.node s call).0
     unfolding client
     call_says = first_says (get c.node.waiting s) refl refl
 
@@ -93,28 +98,28 @@ module _ (member : ℕ) (small : member < 2 ^ 32) where
   at_end : (most : ℕ) (c : Course) (askers : Askers) (happens : List Happens)
       → most + length happens ≤ 2 ^ 63 → AllFit c happens
       → length (course c happens).order ≤ 2 ^ 63 → RightSoFar member most c askers
-      → (a : Asker) (p : ℕ) (r : Reply) → Claim c.order c.node a r → IsWithin p r
-      → IsRight (course c happens).order p a r
-  at_end most c askers [] few fits short h a p r claim within =
-      claim_right c.order c.node h.kept.follows.facts h.past a p r within claim
-  at_end most c askers (x ∷ happens) few fits short h a p r claim within =
+      → (a : Asker) (p : ℕ) (waited : Bool) (r : Reply) → Claim c.order c.node a r → IsWithin p r
+      → IsRight (course c happens).order p a waited r
+  at_end most c askers [] few fits short h a p waited r claim within =
+      claim_right c.order c.node h.kept.follows.facts h.past a p waited r within claim
+  at_end most c askers (x ∷ happens) few fits short h a p waited r claim within =
       let d = next c x in
       let room : length d.order ≤ 2 ^ 63 = omega (arith, short, course_longer d happens) in
       at_end (most + 1) d (asked_by d.node.live.entries askers) happens (omega (arith, few)) fits.1
-      short (next_right member most small (omega (arith, few)) c askers h x fits.0 room) a p r
-      (moved_claim member most small (omega (arith, few)) c askers h x fits.0 room a r claim)
+      short (next_right member most small (omega (arith, few)) c askers h x fits.0 room) a p waited
+      r (moved_claim member most small (omega (arith, few)) c askers h x fits.0 room a r claim)
       within
 
   pub says_right : (most : ℕ) (c : Course) (askers : Askers) (happens : List Happens)
       → most + length happens ≤ 2 ^ 63 → AllFit c happens
       → length (course c happens).order ≤ 2 ^ 63 → RightSoFar member most c askers
-      → (p : ℕ) (o : Option Asker) (r : Reply) → Says c.order c.node p o r
-      → IsRightTo (course c happens).order p o r
-  says_right most c askers happens few fits short h p o r (Nothing bare) =
-      bare_to (course c happens).order p o r bare
-  says_right most c askers happens few fits short h p o r (Something a is claim within) =
-      subst (λ q. IsRightTo (course c happens).order p q r) (sym is)
-      (at_end most c askers happens few fits short h a p r claim within)
+      → (p : ℕ) (o : Option Asker) (waited : Bool) (r : Reply) → Says c.order c.node p o waited r
+      → IsRightTo (course c happens).order p o waited r
+  says_right most c askers happens few fits short h p o waited r (Nothing bare) =
+      bare_to (course c happens).order p o waited r bare
+  says_right most c askers happens few fits short h p o waited r (Something a is claim within) =
+      subst (λ q. IsRightTo (course c happens).order p q waited r) (sym is)
+      (at_end most c askers happens few fits short h a p waited r claim within)
 
   -- what was told at once, and then the rest
   module _ (most : ℕ) (c : Course) (askers : Askers) (happens : List Happens)
@@ -131,7 +136,7 @@ module _ (member : ℕ) (small : member < 2 ^ 32) where
       says_right (most + 1) (next c (Does (act.Client s call)))
           (asked_by (next c (Does (act.Client s call))).node.live.entries askers) happens
           (omega (arith, few)) fits.1 short right c.node.at.committed (get askers s)
-          (client c.order c.node s call).0
+          (is_some (get c.node.waiting s)) (client c.order c.node s call).0
           (call_says member most small (omega (arith, few)) c askers h s call fits.0 room),
       rest,
     )

@@ -185,6 +185,8 @@ ClaimOf order member begin p outbox live a (reply.DeadlockBf v) =
     Defeats order member begin outbox live v a
 ClaimOf order member begin p outbox live a reply.RolledBack =
     IsBarred order member begin outbox live a.trx
+ClaimOf order member begin p outbox live a reply.Disconnected =
+    IsBarred order member begin outbox live a.trx
 ClaimOf order member begin p outbox live a answer = Unit {0}
 
 abbrev pub Claim : List Event → ModelNode → Asker → Reply → Type 0
@@ -223,4 +225,5 @@ module _ (order : List Event) (n : ModelNode) (f : Facts order n) (given : Type 
   claim_moved (reply.DeadlockCert v) h = defeats_moved v h
   claim_moved (reply.DeadlockBf v) h = defeats_moved v h
   claim_moved reply.RolledBack h = barred_moved h
+  claim_moved reply.Disconnected h = barred_moved h
   claim_moved _ h = tt

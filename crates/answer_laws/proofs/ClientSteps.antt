@@ -31,7 +31,7 @@ use Rattle.answer_laws.proofs.Ending.{IsWithin}
 -- ---- a refusal says nothing of a transaction
 abbrev IsBareIf : Option Reply → Type 0
 IsBareIf None = Unit {0}
-IsBareIf (Some r) = IsBare r
+IsBareIf (Some r) = IsBare false r
 
 first_bare : (lines : List (Option Reply)) → AllByRecursion IsBareIf lines
     → IsBareIf (first_line lines)
@@ -52,7 +52,7 @@ column_bare : (o : Option ℕ) → IsBareIf (option_map reply.NoColumn o)
 column_bare None = tt
 column_bare (Some column) = tt
 
-true_bare : (b : Bool) (r : Reply) → IsBare r → IsBareIf (where_true b r)
+true_bare : (b : Bool) (r : Reply) → IsBare false r → IsBareIf (where_true b r)
 true_bare true r bare = bare
 true_bare false r bare = tt
 
@@ -85,14 +85,14 @@ refusal_bare met change =
       ),
     )
 
-row_bare : (o : Option (List ℕ)) → IsBare (row_reply o)
+row_bare : (o : Option (List ℕ)) → IsBare false (row_reply o)
 row_bare None = tt
 row_bare (Some row) = tt
 
--- ---- what a call is told, of the session's transaction
+-- ---- what a call is told for which no answer waits, of the session's transaction
 pub data Answered (order : List Event) (n m : ModelNode) (o : Option Live) (r : Reply)
     : Type 0 where
-  Bare : IsBare r → Answered order n m o r
+  Bare : IsBare false r → Answered order n m o r
   Claims : (t : Live) → o ≡ Some t → Claim order m (asker_of t) r → IsWithin n.at.committed r
       → Answered order n m o r
 
@@ -163,7 +163,7 @@ module _ (order : List Event) (n : ModelNode) (f : Facts order n) (h : Pasts ord
   rollback_told (Some t) there idle =
       back_by t there idle (rollback_due t n.at.serial n.at.committed) refl
 
-  poll_by : (o : Option Live) → IsBare (poll_reply o)
+  poll_by : (o : Option Live) → IsBare false (poll_reply o)
   poll_by None = tt
   poll_by (Some t) = tt
 
@@ -183,7 +183,7 @@ module _ (order : List Event) (n : ModelNode) (f : Facts order n) (h : Pasts ord
   pub asked_told : (o : Option Live) (c : Call) → get n.live s ≡ o → Told o (asked order n s o c)
   asked_told o c there =
       chosen o (is_pending o) (reply.Pending, n) _ (λ _. Bare tt) (λ idle.
-      chosen o (is_left n.at.phase) (reply.Disconnected, n) _ (λ _. Bare tt) (λ _.
+      chosen o (is_left n.at.phase) (reply.Disconnected, n) _ (λ _. Bare refl) (λ _.
       chosen o (is_joining n.at.phase || nat_lt n.at.committed n.at.view) (reply.NotSynced, n)
       (served order n s o c) (λ _. Bare tt) (λ _. served_told o c there idle)))
 

@@ -1,5 +1,5 @@
 -- A claim that is kept to the end makes the answer right.
-use Rattle.std.proofs.Common.{◌≡◌, ℕ, zero, suc, ◌+◌, ◌≤◌, true, List, length, Some, ap, sym, subst, ◌∙◌, arith}
+use Rattle.std.proofs.Common.{◌≡◌, ℕ, zero, suc, ◌+◌, ◌≤◌, Bool, true, List, length, Some, ap, sym, subst, ◌∙◌, arith}
 use Rattle.std.specs.Prelude.{slice_get}
 use Rattle.std.proofs.lemmas.Option.{same_Some}
 use Rattle.wsrep_base.specs.declared.ids.TrxId.{TrxId}
@@ -96,17 +96,18 @@ module _ (order : List Event) (n : ModelNode) (f : Facts order n) (h : Pasts ord
       (of_commit a.trx k c is made) made.ends own.write own.ends in
       made.number ∙ ap suc same ∙ sym own.number
 
-  pub claim_right : (a : Asker) (p : ℕ) (r : Reply) → IsWithin p r → Claim order n a r
-      → IsRight order p a r
-  claim_right a p (reply.Committed zero) within s =
+  pub claim_right : (a : Asker) (p : ℕ) (waited : Bool) (r : Reply) → IsWithin p r
+      → Claim order n a r → IsRight order p a waited r
+  claim_right a p waited (reply.Committed zero) within s =
       λ before w at. not_there order n h a.trx before w s.home s.none at
-  claim_right a p (reply.Committed (suc j)) within s = (
+  claim_right a p waited (reply.Committed (suc j)) within s = (
     record { stands = s.stands; changes = s.changes; once = once (suc j) a s },
     within,
   )
-  claim_right a p (reply.DeadlockCert v) within s =
+  claim_right a p waited (reply.DeadlockCert v) within s =
       record { prevailed = s.prevailed; behind = s.behind; never = never a.trx s.barred }
-  claim_right a p (reply.DeadlockBf v) within s =
+  claim_right a p waited (reply.DeadlockBf v) within s =
       record { prevailed = s.prevailed; behind = s.behind; never = never a.trx s.barred }
-  claim_right a p reply.RolledBack within s = never a.trx s
-  claim_right a p _ within s = tt
+  claim_right a p waited reply.RolledBack within s = never a.trx s
+  claim_right a p waited reply.Disconnected within s = λ _. never a.trx s
+  claim_right a p waited _ within s = tt

@@ -189,4 +189,5 @@ module _ (order more : List Event) where
       claim_grown (reply.DeadlockCert v) h = defeats_grown v h
       claim_grown (reply.DeadlockBf v) h = defeats_grown v h
       claim_grown reply.RolledBack h = barred_grown h
+      claim_grown reply.Disconnected h = barred_grown h
       claim_grown _ h = tt

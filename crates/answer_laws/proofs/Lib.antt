@@ -12,6 +12,7 @@ pub mod Deadlocks
 pub mod NodeSteps
 pub mod Kills
 pub mod Drains
+pub mod Leaving
 pub mod Asking
 pub mod ClientSteps
 pub mod RightAnswers

@@ -72,8 +72,8 @@ module _ (live : FiniteMap nat_cmp Live) (s : ℕ) where
 
   module _ (waiting : FiniteMap nat_cmp Reply)
       (idle : (q : ℕ) (r : Reply) → get waiting q ≡ Some r → get live q ≡ None) where
-    idle_insert : (answer : Reply) (q : ℕ) (r : Reply) → get (insert waiting s answer) q ≡ Some r
-        → get (remove live s) q ≡ None
+    pub idle_insert : (answer : Reply) (q : ℕ) (r : Reply)
+        → get (insert waiting s answer) q ≡ Some r → get (remove live s) q ≡ None
     idle_insert answer q r is = by (inserted numbers waiting s answer q r is)
       where
         by : Inserted numbers waiting s answer q r → get (remove live s) q ≡ None

@@ -1,6 +1,6 @@
 -- All answers that the sessions of a node were told in a run of a cluster are right over its order.
 use Rattle.std.proofs.Common.{◌≡◌, ℕ, suc, ◌+◌, ◌-◌, ◌≤◌, ◌<◌, ◌^◌, Bool, true, false, List, [], ◌∷◌, ◌++◌, length, Some, refl, ap, sym, subst, ◌∙◌, arith}
-use Rattle.std.specs.Prelude.{◌==◌, slice_get}
+use Rattle.std.specs.Prelude.{◌==◌, slice_get, is_some}
 use Rattle.std.specs.List.{AllByRecursion}
 use Rattle.std.specs.Ordering.{nat_cmp}
 use Rattle.std.proofs.lemmas.Option.{same_Some}
@@ -99,27 +99,29 @@ module _ (member : ℕ) (small : member < 2 ^ 32) (i : ℕ) where
       order_is = ap (λ (x : ModelCluster). x.order) (call_is c i n there session call step here is)
 
       called_right : IsRightTo (run steps d).1.order n.at.committed (get askers session)
-          (client c.order n session call).0
+          (is_some (get n.waiting session)) (client c.order n session call).0
       called_right =
           let short = short_order most c (omega (arith, few)) sound in
           let says = call_says member most small (omega (arith, few)) (at_node c.order n) askers h
           session call (subst ActFits is fits) short in
           let now : Says d.order s.node n.at.committed (get askers session)
-          (client c.order n session call).0 =
+          (is_some (get n.waiting session)) (client c.order n session call).0 =
           subst (λ o. Says o s.node n.at.committed (get askers session)
-          (client c.order n session call).0) (sym order_is)
+          (is_some (get n.waiting session)) (client c.order n session call).0) (sym order_is)
           (subst (λ x. Says c.order x n.at.committed (get askers session)
-          (client c.order n session call).0) (sym node_is) says) in
+          (is_some (get n.waiting session)) (client c.order n session call).0) (sym node_is)
+          says) in
           let rest = run_course steps (most + 1) d (omega (arith, few)) rest_fits next_sound i
           s.node s.there in
           let final = short_order (most + 1 + length steps) (run steps d).1 (omega (arith, few))
           (run_sound steps (most + 1) d (omega (arith, few)) rest_fits next_sound) in
           subst (λ (x : Course). IsRightTo x.order n.at.committed (get askers session)
-          (client c.order n session call).0) rest.leads
+          (is_some (get n.waiting session)) (client c.order n session call).0) rest.leads
           (says_right member small (most + 1) (at_node d.order s.node)
           (asked_by s.node.live.entries askers) rest.happens (omega (arith, few, rest.count))
           rest.fits (subst (λ (x : Course). length x.order ≤ 2 ^ 63) (sym rest.leads) final) right
-          n.at.committed (get askers session) (client c.order n session call).0 now)
+          n.at.committed (get askers session) (is_some (get n.waiting session))
+          (client c.order n session call).0 now)
 
     step_by : (own : Bool) (a : Act) → step.node - 1 == i ≡ own → step.act ≡ a
         → (others : List Told) → AreRight (run steps d).1.order others

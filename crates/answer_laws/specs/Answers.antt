@@ -1,5 +1,5 @@
 -- when what the sessions of a node were told along its course is right
-use Rattle.std.specs.Prelude.{◌≡◌, ◌≤◌, ◌<◌, ◌^◌, ◌-◌, ◌==◌, ℕ, zero, suc, List, [], ◌∷◌, ◌++◌, length, slice_get, Option, Some, None, Bool, true, false}
+use Rattle.std.specs.Prelude.{◌≡◌, ◌≤◌, ◌<◌, ◌^◌, ◌-◌, ◌==◌, ℕ, zero, suc, List, [], ◌∷◌, ◌++◌, length, slice_get, Option, Some, None, is_some, Bool, true, false}
 use Rattle.std.specs.List.{AllByRecursion}
 use Rattle.std.specs.Ordering.{nat_cmp}
 use Rattle.finite_map.specs.FiniteMap.{FiniteMap, empty, get, insert}
@@ -44,16 +44,19 @@ abbrev pub asked_by : List (ℕ × Live) → FiniteMap nat_cmp Asker → FiniteM
 asked_by [] askers = askers
 asked_by (e ∷ live) askers = asked_by live (insert askers e.0 (asker_of e.1))
 
--- what a session was told: its transaction so far, what the node had committed, and the answer
+-- what a session was told: its transaction so far, what the node had committed, whether the answer
+-- had waited for its call, and the answer
 pub record Told : Type 0 where
   pub asker : Option Asker
   pub committed : ℕ
+  pub waited : Bool
   pub answer : Reply
 
 abbrev pub told_by : Course → FiniteMap nat_cmp Asker → Happens → List Told
 told_by c askers (Does (act.Client session call)) = record {
   asker = get askers session;
   committed = c.node.at.committed;
+  waited = is_some (get c.node.waiting session);
   answer = (client c.order c.node session call).0;
 } ∷ []
 told_by c askers other = []
@@ -114,31 +117,34 @@ pub record IsDefeated (order : List Event) (v : ℕ) (a : Asker) : Type 0 where
   pub never : NeverCommits order a.trx
 
 -- what an answer to the session of a transaction says of the whole order, on a node that has
--- committed so many events
-abbrev pub IsRight : List Event → ℕ → Asker → Reply → Type 0
-IsRight order p a (reply.Committed zero) = NothingWritten order a.trx
-IsRight order p a (reply.Committed (suc n)) = StandsOnce order (suc n) a × (suc n ≤ p)
-IsRight order p a (reply.DeadlockCert v) = IsDefeated order v a
-IsRight order p a (reply.DeadlockBf v) = IsDefeated order v a
-IsRight order p a reply.RolledBack = NeverCommits order a.trx
-IsRight order p a answer = Unit {0}
+-- committed so many events; DISCONNECTED says something only where it had waited, and UNKNOWN
+-- nothing
+abbrev pub IsRight : List Event → ℕ → Asker → Bool → Reply → Type 0
+IsRight order p a waited (reply.Committed zero) = NothingWritten order a.trx
+IsRight order p a waited (reply.Committed (suc n)) = StandsOnce order (suc n) a × (suc n ≤ p)
+IsRight order p a waited (reply.DeadlockCert v) = IsDefeated order v a
+IsRight order p a waited (reply.DeadlockBf v) = IsDefeated order v a
+IsRight order p a waited reply.RolledBack = NeverCommits order a.trx
+IsRight order p a waited reply.Disconnected = waited ≡ true → NeverCommits order a.trx
+IsRight order p a waited answer = Unit {0}
 
 -- an answer that says nothing of a transaction
-abbrev pub IsBare : Reply → Type 0
-IsBare (reply.Committed n) = ⊥
-IsBare (reply.DeadlockCert v) = ⊥
-IsBare (reply.DeadlockBf v) = ⊥
-IsBare reply.RolledBack = ⊥
-IsBare answer = Unit {0}
+abbrev pub IsBare : Bool → Reply → Type 0
+IsBare waited (reply.Committed n) = ⊥
+IsBare waited (reply.DeadlockCert v) = ⊥
+IsBare waited (reply.DeadlockBf v) = ⊥
+IsBare waited reply.RolledBack = ⊥
+IsBare waited reply.Disconnected = waited ≡ false
+IsBare waited answer = Unit {0}
 
 -- to a session that had no transaction so far it says nothing
-abbrev pub IsRightTo : List Event → ℕ → Option Asker → Reply → Type 0
-IsRightTo order p None answer = IsBare answer
-IsRightTo order p (Some a) answer = IsRight order p a answer
+abbrev pub IsRightTo : List Event → ℕ → Option Asker → Bool → Reply → Type 0
+IsRightTo order p None waited answer = IsBare waited answer
+IsRightTo order p (Some a) waited answer = IsRight order p a waited answer
 
 abbrev pub AreRight : List Event → List Told → Type 0
 AreRight order answers =
-    AllByRecursion (λ (t : Told). IsRightTo order t.committed t.asker t.answer) answers
+    AllByRecursion (λ (t : Told). IsRightTo order t.committed t.asker t.waited t.answer) answers
 
 -- over the order at the end of every course from a start all answers are right, while numbers are
 -- in range
