@@ -176,7 +176,7 @@ module _ (member most : ℕ) (small : member < 2 ^ 32) (few : most ≤ 2 ^ 63) w
         λ i. record n { ordered = append-nil n.ordered i; outbox = sym none i } in
         subst (Kept member (most + 1) (order ++ [])) (sym same) (others_kept [] tt)
 
-    own_kept : (front back : List Message) → n.outbox ≡ front ++ back → Place order n
+    pub own_kept : (front back : List Message) → n.outbox ≡ front ++ back → Place order n
         → Kept member (most + 1) (order ++ map (event_of member) front) (with_ordered n front back)
     own_kept front back is (Inside s) = sent_kept front back is s
     own_kept front back is (Outside g) =
