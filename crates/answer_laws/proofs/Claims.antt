@@ -25,7 +25,7 @@ use Rattle.node_meaning.proofs.ClientFacts.{first}
 use Rattle.node_meaning.proofs.RangeLaws.{commit-decoded, fragment-decoded, rollback-decoded}
 use Rattle.node_laws.proofs.SetLists.{unequal}
 use Rattle.node_laws.proofs.Sendable.{due_is}
-use Rattle.node_laws.proofs.Moves.{Kind, Move, May, Begins, Extends, Streams, Sends, Ends, TakesBack, Unlocks, Reports, Orders, Passes, Fails, Commits, ended_with}
+use Rattle.node_laws.proofs.Moves.{Kind, Move, May, Begins, Extends, Streams, Sends, Ends, TakesBack, Unlocks, Reports, Orders, Leaves, Passes, Fails, Commits, ended_with}
 use Rattle.course_laws.proofs.PendingSets.{sets_lined, within_order}
 use Rattle.answer_laws.specs.Answers.{Asker, IsWriteAt, PassesAt, Prevailed, FailsBehind}
 use Rattle.answer_laws.specs.Counting.{is_of, is_end_of, count_sent}
@@ -136,13 +136,14 @@ module _ (test : WriteSet → Bool) (trx : TrxId)
       (due_is t n.at.serial n.at.committed w due) now
   shut_moved given g k m may (Unlocks s t to there unlocked) =
       shut_put s t (with_status t to) there refl
-  shut_moved given g k m may Reports = record {
+  shut_moved given g k m may (Reports stays) = record {
     home = h.home;
     begun = h.begun;
     gone = h.gone;
     none = sent-report test n.at.member order n.outbox n.at.committed ∙ h.none;
   }
   shut_moved given g k m may (Orders front back is) = absurd may
+  shut_moved given g k m may (Leaves stay) = absurd may
   shut_moved given g k m may (Passes s t body w judged pass) =
       shut_put s t (with_status t (passed_status (n.at.certified + 1) t.status)) judged.there refl
   shut_moved given g k m may (Fails s t body w v judged came) = shut_gone s

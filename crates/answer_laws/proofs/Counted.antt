@@ -68,18 +68,20 @@ module _ (test : WriteSet → Bool) where
   ordered-own member (m ∷ front) =
       both_same _ _ _ _ (message_is member m) (ordered-own member front)
 
-  other_none : (member : ℕ) (e : Event) → IsOfOthers member e → event_count test member e ≡ 0
-  other_none member (event.Write sender body) is =
+  other_none : (member : ℕ) (left : Bool) (e : Event) → IsOfOthers member left e
+      → event_count test member e ≡ 0
+  other_none member left (event.Write sender body) is =
       ap (λ b. cond b (one_if test (decoded body)) 0) is
-  other_none member (event.View version members) is = refl
-  other_none member (event.Report sender number) is = refl
+  other_none member left (event.View version members) is = refl
+  other_none member left (event.Report sender number) is = refl
 
-  pub ordered-others : (member : ℕ) (events : List Event)
-      → AllByRecursion (IsOfOthers member) events
+  pub ordered-others : (member : ℕ) (left : Bool) (events : List Event)
+      → AllByRecursion (IsOfOthers member left) events
       → count_ordered test member events ≡ 0
-  ordered-others member [] all = refl
-  ordered-others member (e ∷ events) all =
-      both_same _ _ 0 0 (other_none member e all.0) (ordered-others member events all.1)
+  ordered-others member left [] all = refl
+  ordered-others member left (e ∷ events) all =
+      both_same _ _ 0 0 (other_none member left e all.0)
+      (ordered-others member left events all.1)
 
   -- one more write set is sent
   pub sent-one : (member : ℕ) (order : List Event) (outbox : List Message) (w : WriteSet) (b : Bool)

@@ -11,7 +11,6 @@ use Rattle.node_laws.proofs.TakeMoves.{take_moves}
 use Rattle.node_laws.proofs.CertifyMoves.{certify_moves}
 use Rattle.node_laws.proofs.UnitMoves.{CanTakeBack, start_moves, finish_moves}
 use Rattle.node_laws.proofs.AdvanceMoves.{advance_moves}
-use Rattle.course_laws.proofs.Following.{AllKeep}
 use Rattle.answer_laws.specs.Answers.{Asker}
 use Rattle.answer_laws.proofs.Telling.{Stays, Waits, Tells, still_holds, still_waits}
 use Rattle.answer_laws.proofs.NodeSteps.{take_tells, certify_tells, finish_tells, advance_tells}
@@ -25,9 +24,8 @@ pub record OnWay (order : List Event) (member most : ℕ) (askers : FiniteMap na
   pub serial : n.at.serial + len n.live ≤ most
   pub begin : n.at.begin ≤ most
 
-module _ (order : List Event) (member most : ℕ) (keeps : AllKeep order member)
-    (small : member < 2 ^ 32) (few : most ≤ 2 ^ 63) (short : length order ≤ 2 ^ 63)
-    (askers : FiniteMap nat_cmp Asker) where
+module _ (order : List Event) (member most : ℕ) (small : member < 2 ^ 32)
+    (few : most ≤ 2 ^ 63) (short : length order ≤ 2 ^ 63) (askers : FiniteMap nat_cmp Asker) where
   abbrev Way : ModelNode → Type 0
   Way n = OnWay order member most askers n
 
@@ -44,7 +42,7 @@ module _ (order : List Event) (member most : ℕ) (keeps : AllKeep order member)
       → Waits order m askers → Way m
   by_row n m h row waits =
       let grows = reach_grows order (Unit {0}) true n 0 m row in record {
-        stays = (still_holds order member keeps (Unit {0}) tt None n m row h.stays tt).0;
+        stays = (still_holds order member (Unit {0}) tt None n m row h.stays tt).0;
         waits = waits;
         serial = omega (arith, h.serial, grows.serial);
         begin = omega (arith, h.begin, grows.begin);
@@ -54,7 +52,7 @@ module _ (order : List Event) (member most : ℕ) (keeps : AllKeep order member)
       → Way m
   by_tells n m h row tells =
       by_row n m h row
-      (still_waits order member keeps (Unit {0}) tt n m row h.stays askers h.waits tells)
+      (still_waits order member (Unit {0}) tt n m row h.stays askers h.waits tells)
 
   pub take_way : (n : ModelNode) → Way n → Way (take_step order n).1
   take_way n h = by_tells n _ h (take_moves order (Unit {0}) true n) (take_tells order n)
@@ -67,7 +65,7 @@ module _ (order : List Event) (member most : ℕ) (keeps : AllKeep order member)
   pub start_way : (number : ℕ) (n : ModelNode) → Way n → Way (start_step order n number).1
   start_way number n h =
       by_row n _ h (start_moves order (Unit {0}) n number (λ _ _. can n h))
-      (start_waits order member keeps askers n h.stays h.waits (can n h) number)
+      (start_waits order member askers n h.stays h.waits (can n h) number)
 
   pub finish_way : (number : ℕ) (n : ModelNode) → Way n → Way (finish_step n number).1
   finish_way number n h =

@@ -1,6 +1,6 @@
 -- The order grows by events of others, or by the front of the node's outbox: what the node has
 -- sent of each transaction is the same, and claims stay.
-use Rattle.std.proofs.Common.{◌≡◌, ℕ, zero, suc, ◌+◌, ◌≤◌, ◌<◌, Bool, true, false, List, ◌++◌, length, refl, ap, sym, subst, ◌∙◌, arith, length-append, ltb-true, ltb-false}
+use Rattle.std.proofs.Common.{◌≡◌, ℕ, zero, suc, ◌+◌, ◌≤◌, ◌<◌, Bool, true, false, List, [], ◌∷◌, ◌++◌, length, refl, ap, sym, subst, ◌∙◌, arith, length-append, ltb-true, ltb-false}
 use Rattle.std.specs.Prelude.{nat_lt, slice_get, map}
 use Rattle.std.specs.List.{AllByRecursion}
 use Rattle.std.proofs.lemmas.Option.{slice_get_within}
@@ -51,12 +51,20 @@ own_same order member outbox front back is test =
     ∙ ap (λ k. count_ordered test member order + k)
     (sym (ap (count_waiting test) is ∙ waiting-append test front back))
 
-pub others_same : (order : List Event) (member : ℕ) (outbox : List Message) (events : List Event)
-    → AllByRecursion (IsOfOthers member) events
+pub others_same : (order : List Event) (member : ℕ) (left : Bool) (outbox : List Message)
+    (events : List Event) → AllByRecursion (IsOfOthers member left) events
     → SameSent order outbox (order ++ events) outbox member
-others_same order member outbox events all test =
+others_same order member left outbox events all test =
     sum_others _ (count_ordered test member order) _ _
-    (ordered-append test member order events) (ordered-others test member events all)
+    (ordered-append test member order events) (ordered-others test member left events all)
+
+-- a view that the node leaves behind is no message
+pub view_same : (order : List Event) (member version : ℕ) (members : List ℕ)
+    (outbox : List Message)
+    → SameSent order outbox (order ++ event.View version members ∷ []) outbox member
+view_same order member version members outbox test =
+    sum_others _ (count_ordered test member order) _ _
+    (ordered-append test member order (event.View version members ∷ [])) refl
 
 module _ (order more : List Event) where
   at_before : (before : ℕ) (trx : TrxId) (w : WriteSet) → before < length order

@@ -27,7 +27,6 @@ use Rattle.node_meaning.proofs.StartFacts.{kill_leaves}
 use Rattle.node_laws.proofs.Counts.{reach_grows}
 use Rattle.node_laws.proofs.Moves.{Reaches}
 use Rattle.node_laws.proofs.UnitMoves.{CanTakeBack, over, kills_over, session_only, session_moves, still_back, range_back}
-use Rattle.course_laws.proofs.Following.{AllKeep}
 use Rattle.course_laws.proofs.PendingSets.{within_order}
 use Rattle.answer_laws.specs.Answers.{Asker, asker_of}
 use Rattle.answer_laws.proofs.Causes.{shut_ended, shut_back, unit_defeats}
@@ -78,7 +77,7 @@ module _ (order : List Event) (member number : ℕ) (item : CommitItem)
     can : CanTakeBack n
     within : number ≤ n.at.certified
 
-  module _ (keeps : AllKeep order member) (askers : FiniteMap nat_cmp Asker) where
+  module _ (askers : FiniteMap nat_cmp Asker) where
     abbrev Touching : ModelNode → ℕ → Type 0
     Touching n s = (t : Live) → get n.live s ≡ Some t → has_locks t.status ≡ true
         → touches item.keys t.keys ≡ true
@@ -99,8 +98,8 @@ module _ (order : List Event) (member number : ℕ) (item : CommitItem)
         session_moves order (Unit {0}) number n s (get n.live s) refl (λ _ _. h.can) in
         let only = session_only number n s (get n.live s) in
         record {
-          stays = (still_holds order member keeps (Unit {0}) tt None n m row h.stays tt).0;
-          waits = still_waits order member keeps (Unit {0}) tt n m row h.stays askers h.waits
+          stays = (still_holds order member (Unit {0}) tt None n m row h.stays tt).0;
+          waits = still_waits order member (Unit {0}) tt n m row h.stays askers h.waits
               (session_tells n h s (get n.live s) refl touching);
           can = still_back n m (reach_grows order (Unit {0}) true n 0 m row)
               (ap (λ (x : ModelNode). x.at.committed) only) h.can;
@@ -118,9 +117,8 @@ module _ (order : List Event) (member number : ℕ) (item : CommitItem)
         ((kill_leaves number n v).fewer s t there locks) locks)
 
 -- ---- a unit starts
-module _ (order : List Event) (member : ℕ) (keeps : AllKeep order member)
-    (askers : FiniteMap nat_cmp Asker) (n : ModelNode) (h : Stays order member n)
-    (w : Waits order n askers) (can : CanTakeBack n) (number : ℕ) where
+module _ (order : List Event) (member : ℕ) (askers : FiniteMap nat_cmp Asker) (n : ModelNode)
+    (h : Stays order member n) (w : Waits order n askers) (can : CanTakeBack n) (number : ℕ) where
   waits_over : (units : FiniteMap nat_cmp ApplyUnit) (m : ModelNode) → Waits order m askers
       → Waits order (over units m) askers
   waits_over units m w = record { asked = w.asked; claims = w.claims }
@@ -135,7 +133,7 @@ module _ (order : List Event) (member : ℕ) (keeps : AllKeep order member)
         (within_order order n f) passed in
         let victims = touching_sessions (locks_of n.live n.units) item.keys in
         let u : ApplyUnit = record { stage = Started; keys = item.keys } in
-        let killed = killed_all order member number item p.is_commit keeps askers victims n
+        let killed = killed_all order member number item p.is_commit askers victims n
         (record { stays = h; waits = w; can = can; within = p.within })
         (λ s i t there locks.
         let way = touched_from n.live n.units item.keys s i in

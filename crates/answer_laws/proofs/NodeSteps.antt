@@ -19,6 +19,7 @@ use Rattle.node_meaning.specs.declared.progress.Stage.{Stage}
 use Rattle.node_meaning.specs.declared.progress.Stage.TheVariants.{Started, Finished}
 use Rattle.node_meaning.specs.Node.{ModelNode, ApplyUnit, is_left, is_joining, is_connected, set_live, end_with}
 use Rattle.node_meaning.specs.Steps.{is_write, is_report, is_this_write, without_first, took, take_event, take_step, verdict_of, told, session_of, told_verdict, told_own, certify_event, certify_step, finish_stage, finish_unit, finish_step, put_report, report_step, committer_of, told_committed, is_ready, advance_step}
+use Rattle.node_meaning.specs.Status.{status_step}
 use Rattle.node_meaning.specs.Facts.{Facts}
 use Rattle.node_meaning.proofs.EntryLaws.{entry_found}
 use Rattle.node_meaning.proofs.CertifyFacts.{verdict_again}
@@ -51,6 +52,11 @@ unfolding report_step
 report_waiting n =
     reported_waiting n (is_left n.at.phase)
     (is_joining n.at.phase || nat_lt n.at.committed n.at.view)
+
+-- a node's status changes nothing
+pub status_same : (order : List Event) (n : ModelNode) → (status_step order n).1 ≡ n
+unfolding status_step
+status_same order n = refl
 
 module _ (order : List Event) (n : ModelNode) where
   still : Tells order n n

@@ -27,7 +27,7 @@ use Rattle.node_meaning.proofs.RangeLaws.{commit-decoded, fragment-decoded, roll
 use Rattle.node_laws.proofs.SetLists.{equal}
 use Rattle.node_laws.proofs.Heads.{head_waits}
 use Rattle.node_laws.proofs.Sendable.{due_is}
-use Rattle.node_laws.proofs.Moves.{Kind, Move, May, Tells, Begins, Extends, Streams, Sends, Ends, TakesBack, Unlocks, Reports, Orders, Certifies, Passes, Fails, Commits, IsJudged, verdict_next, MayCertify, Unlocked, Sent, Passed, with_certified, with_reply, ended_with}
+use Rattle.node_laws.proofs.Moves.{Kind, Move, May, Tells, Begins, Extends, Streams, Sends, Ends, TakesBack, Unlocks, Reports, Orders, Leaves, Certifies, Passes, Fails, Commits, IsJudged, verdict_next, MayCertify, Unlocked, Sent, Passed, with_certified, with_reply, ended_with}
 use Rattle.course_laws.specs.Ordered.{pending_sets, Stage, Early, Since}
 use Rattle.course_laws.proofs.Placing.{conflict_not}
 use Rattle.course_laws.proofs.PendingSets.{sets_lined, within_order, own_next}
@@ -273,8 +273,9 @@ module _ (order : List Event) (n : ModelNode) (f : Facts order n) (stage : Stage
         unsent = λ o none. past.unsent (unlocked_open t.status to unlocked o) none;
         passed = past.passed;
       })
-  past_moved given g k m may Reports = reported_past order n h
+  past_moved given g k m may (Reports stays) = reported_past order n h
   past_moved given g k m may (Orders front back is) = absurd may
+  past_moved given g k m may (Leaves stay) = absurd may
   past_moved given g k m may (Certifies e can) = certified_past order n f h stage e can
   past_moved given g k m may (Passes s t body w judged pass) =
       passes_past order n f h s t body w judged pass

@@ -10,14 +10,14 @@ use Rattle.order_event.specs.declared.step.Act.{Act}
 use Rattle.order_event.specs.declared.step.Act.TheVariants as act
 use Rattle.order_event.specs.declared.step.Answer.TheVariants as answer
 use Rattle.order_event.specs.declared.step.Step.{Step}
-use Rattle.group_order.specs.Order.{up_to}
 use Rattle.node_meaning.specs.Node.{ModelNode, start_node}
 use Rattle.node_meaning.specs.Client.{client}
 use Rattle.node_meaning.specs.Cluster.{ModelCluster, start_cluster, set_at, step_at, cluster_step, run}
-use Rattle.node_laws.proofs.SetLists.{equal, all_each}
-use Rattle.node_laws.proofs.ClusterLaws.{ActFits, SoundCluster, step_sound, start_sound, run_sound}
+use Rattle.node_laws.proofs.SetLists.{equal}
+use Rattle.node_laws.specs.Fits.{ActFits}
+use Rattle.node_laws.proofs.ClusterLaws.{SoundCluster, step_sound, run_sound}
 use Rattle.course_laws.specs.Courses.{Course}
-use Rattle.course_laws.proofs.Runs.{at_node, set_here, StepOf, cluster_step_of, run_course, numbered, start_at}
+use Rattle.course_laws.proofs.Runs.{at_node, set_here, StepOf, cluster_step_of, AllViewed, step_all_viewed, run_course, start_at, start_is_sound, start_viewed}
 use Rattle.answer_laws.specs.Answers.{Asker, asked_by, Told, told_of, asked_of, told_run, IsRightTo, AreRight, RunsAnswerRight}
 use Rattle.answer_laws.proofs.RightAnswers.{RightSoFar, next_right}
 use Rattle.answer_laws.proofs.Answering.{Says, call_says, says_right, start_right}
@@ -64,16 +64,19 @@ module _ (member : ℕ) (small : member < 2 ^ 32) (i : ℕ) where
   module _ (most : ℕ) (c : ModelCluster) (n : ModelNode) (askers : Askers)
       (there : slice_get c.nodes i ≡ Some n) (step : Step) (steps : List Step)
       (few : most + suc (length steps) ≤ 2 ^ 63) (fits : Fit step)
-      (rest_fits : AllByRecursion Fit steps) (sound : SoundCluster most c)
+      (rest_fits : AllByRecursion Fit steps) (sound : SoundCluster most c) (viewed : AllViewed c)
       (h : RightSoFar member most (at_node c.order n) askers) where
     abbrev d : ModelCluster
     d = (cluster_step c step).1
 
     s : StepOf c d i n
-    s = cluster_step_of c i n there sound.differ step fits
+    s = cluster_step_of c i n there (viewed i n there) sound.differ step fits
 
     next_sound : SoundCluster (most + 1) d
     next_sound = step_sound most c (omega (arith, few)) sound step fits
+
+    next_views : AllViewed d
+    next_views = step_all_viewed c sound.differ viewed step fits
 
     right : RightSoFar member (most + 1) (at_node d.order s.node)
         (asked_by s.node.live.entries askers)
@@ -111,8 +114,8 @@ module _ (member : ℕ) (small : member < 2 ^ 32) (i : ℕ) where
           (subst (λ x. Says c.order x n.at.committed (get askers session)
           (is_some (get n.waiting session)) (client c.order n session call).0) (sym node_is)
           says) in
-          let rest = run_course steps (most + 1) d (omega (arith, few)) rest_fits next_sound i
-          s.node s.there in
+          let rest = run_course steps (most + 1) d (omega (arith, few)) rest_fits next_sound
+          next_views i s.node s.there in
           let final = short_order (most + 1 + length steps) (run steps d).1 (omega (arith, few))
           (run_sound steps (most + 1) d (omega (arith, few)) rest_fits next_sound) in
           subst (λ (x : Course). IsRightTo x.order n.at.committed (get askers session)
@@ -133,31 +136,30 @@ module _ (member : ℕ) (small : member < 2 ^ 32) (i : ℕ) where
 
   run_right : (steps : List Step) (most : ℕ) (c : ModelCluster) (n : ModelNode) (askers : Askers)
       → slice_get c.nodes i ≡ Some n → most + length steps ≤ 2 ^ 63 → AllByRecursion Fit steps
-      → SoundCluster most c → RightSoFar member most (at_node c.order n) askers
+      → SoundCluster most c → AllViewed c → RightSoFar member most (at_node c.order n) askers
       → AreRight (run steps c).1.order (told_run c i askers steps)
   unfolding run
-  run_right [] most c n askers there few fits sound h = tt
-  run_right (step ∷ steps) most c n askers there few fits sound h =
+  run_right [] most c n askers there few fits sound viewed h = tt
+  run_right (step ∷ steps) most c n askers there few fits sound viewed h =
       let d = (cluster_step c step).1 in
-      let x = s most c n askers there step steps few fits.0 fits.1 sound h in
+      let x = s most c n askers there step steps few fits.0 fits.1 sound viewed h in
       let rest = run_right steps (most + 1) d x.node (asked_by x.node.live.entries askers) x.there
       (omega (arith, few)) fits.1 (next_sound most c n askers there step steps few fits.0 fits.1
-      sound h) (right most c n askers there step steps few fits.0 fits.1 sound h) in
+      sound viewed h) (next_views most c n askers there step steps few fits.0 fits.1 sound viewed h)
+      (right most c n askers there step steps few fits.0 fits.1 sound viewed h) in
       let others = subst (λ o. AreRight (run steps d).1.order
       (told_run d i (asked_of o askers) steps)) (sym x.there) rest in
       subst (λ o. AreRight (run steps d).1.order
       (told_of c.order o askers (step.node - 1 == i) step.act
       ++ told_run d i (asked_of (slice_get d.nodes i) askers) steps)) (sym there)
-      (step_by most c n askers there step steps few fits.0 fits.1 sound h (step.node - 1 == i)
-      step.act refl refl (told_run d i (asked_of (slice_get d.nodes i) askers) steps) others)
+      (step_by most c n askers there step steps few fits.0 fits.1 sound viewed h
+      (step.node - 1 == i) step.act refl refl (told_run d i (asked_of (slice_get d.nodes i) askers) steps) others)
 
 -- over the order at the end of every run of a cluster all answers of its nodes are right
 pub runs_answer_right : RunsAnswerRight
 unfolding start_cluster
 runs_answer_right nodes id steps small few fits i inside =
-    let start = start_cluster nodes id in
-    let sound = start_sound nodes id (all_each (λ m. m ≤ nodes) (λ m. m < 2 ^ 32)
-    (λ m h. omega (arith, h, small)) (up_to nodes) (numbered nodes)) in
-    run_right (suc i) (omega (arith, inside, small)) i steps 1 start (start_node id (suc i)) empty
-    (start_at id nodes i inside) (omega (arith, few)) fits sound
+    run_right (suc i) (omega (arith, inside, small)) i steps 1 (start_cluster nodes id)
+    (start_node id (suc i)) empty (start_at id nodes i inside) (omega (arith, few)) fits
+    (start_is_sound nodes id small) (start_viewed nodes id small)
     (start_right nodes (suc i) id (omega arith) inside)

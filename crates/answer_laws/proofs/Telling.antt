@@ -10,7 +10,7 @@ use Rattle.client_trx.specs.Live.{Live}
 use Rattle.node_meaning.specs.Node.{ModelNode}
 use Rattle.node_laws.proofs.Counts.{move_grows}
 use Rattle.node_laws.proofs.Moves.{Kind, Pays, Works, Quiet, Move, Advances, Commits, May, Reaches, Here, Quietly, Working, Paying}
-use Rattle.course_laws.proofs.Following.{Follows, AllKeep, follow_moved, synced_moved, quiet_not, works_not}
+use Rattle.course_laws.proofs.Following.{Follows, follow_moved, synced_moved, quiet_not, works_not}
 use Rattle.answer_laws.specs.Answers.{Asker, asker_of}
 use Rattle.answer_laws.proofs.Pasts.{Pasts}
 use Rattle.answer_laws.proofs.PastsMoved.{past_moved}
@@ -32,8 +32,8 @@ abbrev pub Holds : List Event → ModelNode → Option (Asker × Reply) → Type
 Holds order n None = Unit {0}
 Holds order n (Some claim) = Claim order n claim.0 claim.1
 
-module _ (order : List Event) (member : ℕ) (keeps : AllKeep order member) (given : Type 0)
-    (g : given) (claim : Option (Asker × Reply)) where
+module _ (order : List Event) (member : ℕ) (given : Type 0) (g : given)
+    (claim : Option (Asker × Reply)) where
   record Both (n : ModelNode) : Type 0 where
     stays : Stays order member n
     claimed : Holds order n claim
@@ -51,7 +51,7 @@ module _ (order : List Event) (member : ℕ) (keeps : AllKeep order member) (giv
       → Both n → Both m
   both_moved n k m synced may move h = record {
     stays = record {
-      follows = follow_moved order member keeps given g n k m synced may move h.stays.follows;
+      follows = follow_moved order member given g n k m synced may move h.stays.follows;
       past = past_moved order n h.stays.follows.facts h.stays.follows.stage h.stays.past given g k
           m may move;
     };
@@ -59,10 +59,10 @@ module _ (order : List Event) (member : ℕ) (keeps : AllKeep order member) (giv
   }
 
   quiet : (n : ModelNode) → Quiet ≡ Pays → n.at.view ≤ n.at.committed
-  quiet n is = absurd (quiet_not order member keeps given g is)
+  quiet n is = absurd (quiet_not order member given g is)
 
   works : (n : ModelNode) → Works ≡ Pays → n.at.view ≤ n.at.committed
-  works n is = absurd (works_not order member keeps given g is)
+  works n is = absurd (works_not order member given g is)
 
   -- a row in which none pays
   still_both : (n m : ModelNode) → Reaches order given true n 0 m → Both n → Both m
@@ -166,17 +166,16 @@ module _ (order : List Event) (n m : ModelNode) where
       by q x (Elsewhere differs at) = inl at
 
 -- the answers that wait after it are right
-module _ (order : List Event) (member : ℕ) (keeps : AllKeep order member) (given : Type 0)
-    (g : given) (n m : ModelNode) (row : Reaches order given true n 0 m)
-    (stays : Stays order member n) (askers : FiniteMap nat_cmp Asker) (w : Waits order n askers)
-    (tells : Tells order n m) where
+module _ (order : List Event) (member : ℕ) (given : Type 0) (g : given) (n m : ModelNode)
+    (row : Reaches order given true n 0 m) (stays : Stays order member n)
+    (askers : FiniteMap nat_cmp Asker) (w : Waits order n askers) (tells : Tells order n m) where
   carried : (s : ℕ) (r : Reply)
       → (get n.waiting s ≡ Some r)
       ⊎ ((t : Live) × (get n.live s ≡ Some t) × Claim order m (asker_of t) r)
       → (a : Asker) × (get askers s ≡ Some a) × Claim order m a r
   carried s r (inl before) =
       let c = w.claims s r before in
-      (c.0, c.1, (still_holds order member keeps given g (Some (c.0, r)) n m row stays c.2).1)
+      (c.0, c.1, (still_holds order member given g (Some (c.0, r)) n m row stays c.2).1)
   carried s r (inr new) = (asker_of new.0, w.asked s new.0 new.1, new.2)
 
   pub still_waits : Waits order m askers

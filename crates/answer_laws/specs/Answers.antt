@@ -26,7 +26,7 @@ use Rattle.node_meaning.specs.Client.{client}
 use Rattle.node_meaning.specs.Cluster.{ModelCluster, start_cluster, cluster_step, run}
 use Rattle.node_meaning.specs.Facts.{commit_at}
 use Rattle.node_meaning.specs.Units.{ops_at}
-use Rattle.node_laws.proofs.ClusterLaws.{ActFits}
+use Rattle.node_laws.specs.Fits.{ActFits}
 use Rattle.course_laws.specs.Courses.{Course, Happens, Does, next, course, AllFit, start_course}
 
 -- ---- who asks
@@ -117,8 +117,8 @@ pub record IsDefeated (order : List Event) (v : ℕ) (a : Asker) : Type 0 where
   pub never : NeverCommits order a.trx
 
 -- what an answer to the session of a transaction says of the whole order, on a node that has
--- committed so many events; DISCONNECTED says something only where it had waited, and UNKNOWN
--- nothing
+-- committed so many events, where the answer had waited for its call and where not: DISCONNECTED
+-- speaks of the transaction only where it had waited, and UNKNOWN never does
 abbrev pub IsRight : List Event → ℕ → Asker → Bool → Reply → Type 0
 IsRight order p a waited (reply.Committed zero) = NothingWritten order a.trx
 IsRight order p a waited (reply.Committed (suc n)) = StandsOnce order (suc n) a × (suc n ≤ p)

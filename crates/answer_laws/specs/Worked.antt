@@ -1,5 +1,6 @@
--- A worked run: what the sessions of two nodes are told, and of which transaction.
-use Rattle.std.specs.Prelude.{◌≡◌, List, [], ◌∷◌, ℕ, Option, Some, None, codes, map, replicate, option_map}
+-- A worked run: what the sessions of two nodes are told, and of which transaction. And a worked
+-- course: what the sessions of a node that leaves are told, and which of it had waited.
+use Rattle.std.specs.Prelude.{◌≡◌, List, [], ◌∷◌, ℕ, Bool, true, false, Option, Some, None, codes, map, replicate, drop, option_map}
 use Rattle.finite_map.specs.FiniteMap.{empty}
 use Rattle.wsrep_base.specs.declared.ids.TrxId.{TrxId}
 use Rattle.cert_meaning.specs.Fold.{computing_folds}
@@ -9,6 +10,7 @@ use Rattle.row_model.specs.declared.calls.Reply.{Reply}
 use Rattle.row_model.specs.declared.calls.Reply.TheVariants as reply
 use Rattle.row_model.specs.declared.row.RowId.{RowId}
 use Rattle.row_model.specs.Names.{is_name, padded}
+use Rattle.order_event.specs.declared.event.Event.TheVariants as event
 use Rattle.order_event.specs.declared.step.Step.{Step}
 use Rattle.order_event.specs.declared.step.Act.{Act}
 use Rattle.order_event.specs.declared.step.Act.TheVariants as act
@@ -17,15 +19,17 @@ use Rattle.wsrep_base.specs.Reading.{bytes_at, number_at}
 use Rattle.write_set.specs.Reading.{many_at, name_at, key_row_at, key_at, some_keys_at, keys_at, place_at, count_at, values_at, columns_at, some_columns_at, op_at, ops_at, header_at, finished, read}
 use Rattle.node_meaning.specs.Client.{client}
 use Rattle.node_meaning.specs.Steps.{take_step, certify_step, start_step, finish_step, advance_step, drained}
+use Rattle.node_meaning.specs.Leaving.{sessions_left, left_node}
 use Rattle.node_meaning.specs.Cluster.{start_cluster, cluster_step, run}
-use Rattle.answer_laws.specs.Answers.{Asker, Told, told_run}
+use Rattle.course_laws.specs.Courses.{Happens, Does, course, start_course}
+use Rattle.answer_laws.specs.Answers.{Asker, Told, told, told_run}
 
 -- what it unfolds
 unfoldable pub computing_answers : Unit {0}
 unfolding computing_folds is_name spelling bytes_at number_at many_at name_at key_row_at key_at
     some_keys_at keys_at place_at count_at values_at columns_at some_columns_at op_at ops_at
     header_at finished read client take_step certify_step start_step finish_step advance_step
-    drained start_cluster cluster_step run
+    drained sessions_left left_node start_cluster cluster_step run
 computing_answers = tt
 
 abbrev pub at : ℕ → Act → Step
@@ -90,3 +94,62 @@ SecondFails =
     ∷ (by 2 1, reply.Done)
     ∷ (by 2 2, reply.Committed 0)
     ∷ []
+
+-- ---- a node that leaves
+abbrev pub other : RowId
+other = record { table = padded (codes "acct"); row = padded (codes "b") }
+
+abbrev pub asks : ℕ → Call → Happens
+asks session c = Does (act.Client session c)
+
+-- the first session commits a row, and then asks for a commit that waits to be ordered; the second
+-- has an open change; the node leaves, and then leaves once more
+abbrev pub leaving : List Happens
+leaving =
+    Does act.Drain
+    ∷ asks 1 (call.Begin 0)
+    ∷ asks 1 (call.Insert row (100 ∷ []))
+    ∷ asks 1 call.Commit
+    ∷ Does act.Drain
+    ∷ asks 1 call.Poll
+    ∷ asks 1 (call.Begin 0)
+    ∷ asks 1 (call.Update row (Some 70 ∷ []))
+    ∷ asks 1 call.Commit
+    ∷ asks 2 (call.Begin 0)
+    ∷ asks 2 (call.Insert other (5 ∷ []))
+    ∷ Does act.Leave
+    ∷ asks 1 call.Poll
+    ∷ asks 2 call.Poll
+    ∷ asks 2 (call.Begin 0)
+    ∷ Does act.Leave
+    ∷ []
+
+-- the transaction of an answer, whether the answer had waited, and the answer
+abbrev pub with_waiting : Told → Option TrxId × Bool × Reply
+with_waiting t = (option_map (λ (a : Asker). a.trx) t.asker, t.waited, t.answer)
+
+-- what became of the commit that was not ordered is not known; of the open change it is known, and
+-- a later call is answered at once
+abbrev pub LeavingTells : Type 0
+LeavingTells =
+    map with_waiting (told (start_course 2 (replicate 16 1) 1) empty leaving)
+    ≡ (None, false, reply.Done)
+    ∷ (by 1 1, false, reply.Done)
+    ∷ (by 1 1, false, reply.Pending)
+    ∷ (by 1 1, true, reply.Committed 2)
+    ∷ (by 1 1, false, reply.Done)
+    ∷ (by 1 2, false, reply.Done)
+    ∷ (by 1 2, false, reply.Pending)
+    ∷ (None, false, reply.Done)
+    ∷ (by 1 3, false, reply.Done)
+    ∷ (by 1 2, true, reply.Unknown)
+    ∷ (by 1 3, true, reply.Disconnected)
+    ∷ (by 1 3, false, reply.Disconnected)
+    ∷ []
+
+-- the node leaves with the third event, a view without its member, and the second leave orders
+-- nothing
+abbrev pub LeavesWithView : Type 0
+LeavesWithView =
+    drop 2 (course (start_course 2 (replicate 16 1) 1) leaving).order
+    ≡ event.View 1 (2 ∷ []) ∷ []
