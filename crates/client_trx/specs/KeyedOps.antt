@@ -21,13 +21,15 @@ with_op ops (Some op) = ops ++ op ∷ []
 
 -- one more key, and the change where there is one
 abbrev pub with_change : Keyed → Parts → Kind → Option Op → Keyed
-with_change all parts kind op = record { keys = with_key all.keys parts kind; ops = with_op all.ops op }
+with_change all parts kind op =
+    record { keys = with_key all.keys parts kind; ops = with_op all.ops op }
 
 -- a transaction has at most 4,096 keys and 8,192 changes
 abbrev pub is_over : Keyed → Bool
 is_over all = nat_lt LIMIT (len all.keys) || nat_lt 8192 (length all.ops)
 
--- the key of a change: exclusive where a row is made or removed, update where it is changed in place
+-- the key of a change: exclusive where a row is made or removed, update where it is changed in
+-- place
 abbrev pub key_of : Op → Parts × Kind
 key_of (Insert id row) = (row_parts id, kind.Exclusive)
 key_of (Update id change) = (row_parts id, kind.Update)

@@ -1,4 +1,5 @@
--- A live transaction: its keys and changes, how far it is, and what statements, verdicts and kills make of it.
+-- A live transaction: its keys and changes, how far it is, and what statements, verdicts and kills
+-- make of it.
 use Rattle.std.specs.Prelude.{◌≡◌, ◌<◌, ℕ, ◌+◌, ◌==◌, Bool, true, false, ◌&&◌, nat_lt, List, [], length, Option, Some, None, if◌then◌else◌}
 use Rattle.finite_map.specs.FiniteMap.{empty}
 use Rattle.key_sets.specs.declared.kind.Kind.{Kind}
@@ -81,7 +82,8 @@ added_unless false op old new = (told_added op new, new)
 
 -- a statement's key, and its change where there is one
 abbrev pub add_by : Live → Parts → Kind → Option Op → Added × Live
-add_by t parts kind op = added_unless (is_too_large (added t parts kind op)) op t (added t parts kind op)
+add_by t parts kind op =
+    added_unless (is_too_large (added t parts kind op)) op t (added t parts kind op)
 
 abbrev pub has_locks : Status → Bool
 has_locks Running = true
@@ -204,7 +206,8 @@ is_uncommitted (Replaying n) = false
 -- fragment
 abbrev pub rollback_due : Live → ℕ → ℕ → Option WriteSet
 rollback_due t serial last_seen =
-    if is_uncommitted t.status && nat_lt 0 t.sent then Some (rollback_of t serial last_seen) else None
+    if is_uncommitted t.status && nat_lt 0 t.sent
+    then Some (rollback_of t serial last_seen) else None
 
 -- the status once the write set that was sent has passed with number n
 abbrev pub passed_status : ℕ → Status → Status

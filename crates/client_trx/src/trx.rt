@@ -33,7 +33,16 @@ impl Model for Trx {
 
     ghost Value = { Live };
 
-    ghost view = { λ t. record { trx = t.id; unit = t.unit; sent = t.sent; keys = t.whole.keys; ops = t.whole.ops; new_keys = (newest_part t.whole t.newest).keys; new_ops = (newest_part t.whole t.newest).ops; status = t.status } };
+    ghost view = { λ t. record {
+      trx = t.id;
+      unit = t.unit;
+      sent = t.sent;
+      keys = t.whole.keys;
+      ops = t.whole.ops;
+      new_keys = (newest_part t.whole t.newest).keys;
+      new_ops = (newest_part t.whole t.newest).ops;
+      status = t.status;
+    } };
 
     ghost invariant = { λ t. AreParts t.whole t.newest t.sent };
 }
@@ -222,7 +231,8 @@ impl Trx {
     ) -> Result<Option<WriteSet>, NoMemory>
         requires names { IsTrue (parts_fit parts.now) }
         requires change { IfSome op.now (λ op. IsKeyOf parts.now kind op) }
-        ensures set { IfOk result (λ set. set ≡ due_fragment self.now parts.now kind op.now serial last_seen) }
+        ensures set { IfOk result (λ set.
+            set ≡ due_fragment self.now parts.now kind op.now serial last_seen) }
         ensures valid { IfOk result (λ set. IfSome set (λ set. IsTrue (obeys set))) }
     {
         match self.adding(parts, op) {
@@ -246,7 +256,8 @@ impl Trx {
         requires names { IsTrue (parts_fit parts.now) }
         requires change { IfSome op.now (λ op. IsKeyOf parts.now kind op) }
         requires room { is_too_large (added self.now parts.now kind op.now) ≡ false }
-        ensures set { IfOk result (λ set. set ≡ fragment_of (added self.now parts.now kind op.now) serial last_seen) }
+        ensures set { IfOk result (λ set.
+            set ≡ fragment_of (added self.now parts.now kind op.now) serial last_seen) }
         ensures valid { IfOk result (λ set. IsTrue (obeys set)) }
     {
         let flags = fragment_flags(self.sent);
