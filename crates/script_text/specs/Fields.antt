@@ -35,7 +35,8 @@ is_name test word = nat_le 1 (length word) && nat_le (length word) 16 && list_al
 
 -- the name, padded with zeros
 unfoldable pub name_of : (ℕ → Bool) → List ℕ → Option (List ℕ)
-name_of test word = if is_name test word then Some (word ++ replicate (16 - length word) 0) else None
+name_of test word =
+    if is_name test word then Some (word ++ replicate (16 - length word) 0) else None
 
 abbrev pub is_table_letter : ℕ → Bool
 is_table_letter b = is_ascii_lowercase b

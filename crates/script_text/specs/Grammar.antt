@@ -102,7 +102,8 @@ is_passed_over (word ∷ words) = slice_index word 0 == 35
 
 -- what a line says in a cluster of so many nodes
 unfoldable pub said_of : ℕ → List (List ℕ) → Option Line
-said_of nodes words = if is_passed_over words then Some line.Blank else option_map line.Step (step_of nodes words)
+said_of nodes words =
+    if is_passed_over words then Some line.Blank else option_map line.Step (step_of nodes words)
 
 -- `cluster K gcache B id U`
 unfoldable pub header_at : List (List ℕ) → Option Header
@@ -154,12 +155,16 @@ judged within (Some x) = if within x then Ok x else Err cause.Limit
 
 -- a line behind the header, with the newline that ends it, in a cluster of so many nodes
 unfoldable pub line_of : ℕ → List ℕ → Result Line ScriptCause
-line_of nodes line = judged (λ said. is_short line && line_is_within said) (said_of nodes (words_of (text_of line)))
+line_of nodes line =
+    judged (λ said. is_short line && line_is_within said) (said_of nodes (words_of (text_of line)))
 
 -- the header, with the newline that ends it
 unfoldable pub header_of : List ℕ → Result Header ScriptCause
-header_of line = judged (λ header. is_short line && header_is_within header) (header_at (words_of (text_of line)))
+header_of line =
+    judged (λ header. is_short line && header_is_within header)
+    (header_at (words_of (text_of line)))
 
 -- a line that may be the header, with the newline that ends it
 unfoldable pub first_of : List ℕ → Result (Option Header) ScriptCause
-first_of line = judged (λ first. is_short line && first_is_within first) (first_at (words_of (text_of line)))
+first_of line =
+    judged (λ first. is_short line && first_is_within first) (first_at (words_of (text_of line)))

@@ -6,15 +6,18 @@ use Prim.Native.String.{String}
 
 -- a line without the newline that ends it, which the last line of an input may lack
 abbrev pub without_newline : List ℕ → List ℕ
-without_newline line = if slice_index line (length line - 1) == 10 then take (length line - 1) line else line
+without_newline line =
+    if slice_index line (length line - 1) == 10 then take (length line - 1) line else line
 
 -- the bytes before a newline, without one carriage return at their end
 abbrev pub without_return : List ℕ → List ℕ
-without_return text = if slice_index text (length text - 1) == 13 then take (length text - 1) text else text
+without_return text =
+    if slice_index text (length text - 1) == 13 then take (length text - 1) text else text
 
 -- what a line says: a carriage return is dropped before a newline alone
 unfoldable pub text_of : List ℕ → List ℕ
-text_of line = if slice_index line (length line - 1) == 10 then without_return (without_newline line) else line
+text_of line =
+    if slice_index line (length line - 1) == 10 then without_return (without_newline line) else line
 
 -- a space or a tab
 abbrev pub is_blank : ℕ → Bool
