@@ -24,7 +24,8 @@ use Rattle.cert_meaning.specs.Verdict.{verdict, trx_of, is_end, is_rollback, is_
 
 -- what becomes of a write set that passes
 abbrev pub passed : WriteSet → Judged
-passed w = if is_rollback w then became.Rollback else if is_end w then became.Commit else became.Fragment
+passed w =
+    if is_rollback w then became.Rollback else if is_end w then became.Commit else became.Fragment
 
 -- what becomes of a write set by its verdict
 abbrev pub judged_as : WriteSet → Verdict → Judged
@@ -49,7 +50,8 @@ judged s (Write member body) = judged_write s member (decoded body)
 judged s (View version members) = became.View
 judged s (Report member number) = became.Report
 
--- what an event does to its transaction: nothing, it is open no longer, one more fragment of it has passed, or it is committed
+-- what an event does to its transaction: nothing, it is open no longer, one more fragment of it has
+-- passed, or it is committed
 pub data Effect : Type 0 where
   Same : Effect
   Closes : Effect
@@ -80,7 +82,8 @@ effect_of (became.Fail failure) = effect_of_failure failure
 -- a member's last serial is this one
 abbrev pub with_serial : FiniteMap nat_cmp Standing → ℕ → ℕ → FiniteMap nat_cmp Standing
 with_serial members member serial =
-    option_map_or (λ (standing : Standing). insert members member (record standing { serial = serial }))
+    option_map_or
+    (λ (standing : Standing). insert members member (record standing { serial = serial }))
     (get members member) members
 
 -- a member's last serial is that of the write set
@@ -93,7 +96,8 @@ closed s w = record (counted s w) { open_trx = remove s.open_trx (trx_of w) }
 
 -- the fragment that a write set adds to its transaction
 abbrev pub fragment_by : FoldState → WriteSet → Fragment
-fragment_by s w = record { number = s.number + 1; last_seen = w.last_seen; keys = w.keys; ops = w.ops }
+fragment_by s w =
+    record { number = s.number + 1; last_seen = w.last_seen; keys = w.keys; ops = w.ops }
 
 -- its transaction has one more fragment
 abbrev pub continued : FoldState → WriteSet → FoldState
@@ -105,7 +109,11 @@ continued s w =
 -- the commit that a write set makes of its transaction
 abbrev pub commit_by : FoldState → WriteSet → CommitItem
 commit_by s w =
-    record { number = s.number + 1; trx = trx_of w; keys = whole_keys (fragments_of s (trx_of w)) w.keys }
+    record {
+      number = s.number + 1;
+      trx = trx_of w;
+      keys = whole_keys (fragments_of s (trx_of w)) w.keys;
+    }
 
 -- its transaction is committed: all its changes go into the rows
 abbrev pub committed : FoldState → WriteSet → FoldState
@@ -128,11 +136,13 @@ written s member (Some w) = affected s w (effect_of (judged_write s member (Some
 
 -- how a member stands after a view of this number that has it: a new one begins there
 abbrev pub standing_in : FiniteMap nat_cmp Standing → ℕ → ℕ → Standing
-standing_in members number member = unwrap_or (get members member) (record { report = number; serial = 0 })
+standing_in members number member =
+    unwrap_or (get members member) (record { report = number; serial = 0 })
 
 -- the members of a view of this number
 abbrev pub members_in : FiniteMap nat_cmp Standing → ℕ → List ℕ → FiniteMap nat_cmp Standing
-members_in members number listed = from_entries (map (λ member. (member, standing_in members number member)) listed)
+members_in members number listed =
+    from_entries (map (λ member. (member, standing_in members number member)) listed)
 
 -- whether the transaction's member is one of the list
 abbrev pub is_of : List ℕ → TrxId → Bool
@@ -161,7 +171,8 @@ changed_by s (Report member number) = reported s member number (get s.members me
 
 -- the least report of the members; the floor as it was where there is none
 abbrev pub floor_over : FiniteMap nat_cmp Standing → ℕ → ℕ
-floor_over members floor = unwrap_or (least (map (λ (standing : Standing). standing.report) (values members))) floor
+floor_over members floor =
+    unwrap_or (least (map (λ (standing : Standing). standing.report) (values members))) floor
 
 -- one more event is seen, and the floor is the least report; it stays where there is no member
 abbrev pub settled : FoldState → FoldState
@@ -185,7 +196,8 @@ unfoldable pub judged_all : FoldState → List Event → List Judged
 judged_all s [] = []
 judged_all s (e ∷ es) = judged s e ∷ judged_all (after s e) es
 
--- the changes that a write set commits: those of its transaction's fragments, and its own; None where it commits nothing
+-- the changes that a write set commits: those of its transaction's fragments, and its own; None
+-- where it commits nothing
 abbrev pub ops_by : FoldState → WriteSet → Effect → Option (List Op)
 ops_by s w Same = None
 ops_by s w Closes = None
@@ -231,5 +243,6 @@ commit_of s (Report member number) = None
 
 -- what a worked example over the fold unfolds
 unfoldable pub computing_folds : Unit {0}
-unfolding computing_maps computing_keys ops_on is_broken conflict_of held_by verdict no_events judged after state_at judged_all committed_ops commit_of
+unfolding computing_maps computing_keys ops_on is_broken conflict_of held_by verdict no_events
+    judged after state_at judged_all committed_ops commit_of
 computing_folds = tt

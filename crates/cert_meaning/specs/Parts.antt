@@ -74,4 +74,5 @@ state_of parts = record {
 
 -- a state without the commits at or below its floor, against which no later write set is tested
 abbrev pub trim : FoldState → FoldState
-trim s = record s { commits = filter (λ (commit : CommitItem). nat_lt s.floor commit.number) s.commits }
+trim s =
+    record s { commits = filter (λ (commit : CommitItem). nat_lt s.floor commit.number) s.commits }

@@ -22,4 +22,5 @@ is_related related above keys commit = nat_lt above commit.number && related com
 -- the greatest number of such a commit
 abbrev pub greatest_related : (Keys → Keys → Bool) → List CommitItem → ℕ → Keys → Option ℕ
 greatest_related related commits above keys =
-    greatest (map (λ (commit : CommitItem). commit.number) (filter (is_related related above keys) commits))
+    greatest
+    (map (λ (commit : CommitItem). commit.number) (filter (is_related related above keys) commits))

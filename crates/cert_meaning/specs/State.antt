@@ -28,7 +28,15 @@ pub record FoldState : Type 0 where
 
 -- before the first event
 unfoldable pub no_events : FoldState
-no_events = record { number = 0; floor = 0; version = 0; members = empty; rows = empty; commits = []; open_trx = empty }
+no_events = record {
+  number = 0;
+  floor = 0;
+  version = 0;
+  members = empty;
+  rows = empty;
+  commits = [];
+  open_trx = empty;
+}
 
 -- the numbers of the commits strictly rise, above the one and up to the other
 abbrev pub RiseWithin : ℕ → ℕ → List CommitItem → Type 0
@@ -43,7 +51,8 @@ Rise commits = (most : ℕ) × RiseWithin 0 most commits
 -- the commit with the number, if there is one
 abbrev pub commit_numbered : ℕ → List CommitItem → Option CommitItem
 commit_numbered n [] = None
-commit_numbered n (commit ∷ commits) = if commit.number == n then Some commit else commit_numbered n commits
+commit_numbered n (commit ∷ commits) =
+    if commit.number == n then Some commit else commit_numbered n commits
 
 -- what the members last reported
 abbrev pub reports : FoldState → List ℕ
@@ -55,7 +64,8 @@ is_member s member = is_some (get s.members member)
 
 -- the serial of a member's last write set
 abbrev pub serial_of : FoldState → ℕ → ℕ
-serial_of s member = option_map_or (λ (standing : Standing). standing.serial) (get s.members member) 0
+serial_of s member =
+    option_map_or (λ (standing : Standing). standing.serial) (get s.members member) 0
 
 -- whether the transaction has passed a fragment and not ended since
 abbrev pub is_open : FoldState → TrxId → Bool

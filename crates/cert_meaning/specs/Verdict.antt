@@ -33,7 +33,8 @@ is_out_of_place s w =
     if is_start w then is_open s (trx_of w)
     else not (is_open s (trx_of w)) || not (w.fragment == length (fragments_of s (trx_of w)))
 
--- it does not continue its transaction where that stands, has seen less than it had, or makes it too large
+-- it does not continue its transaction where that stands, has seen less than it had, or makes it
+-- too large
 unfoldable pub is_broken : FoldState → WriteSet → Bool
 is_broken s w =
     is_out_of_place s w
@@ -47,7 +48,9 @@ conflict_of s last_seen keys = greatest_related conflicts s.commits last_seen ke
 -- the greatest number of a fragment whose keys touch
 abbrev pub greatest_touching : List Fragment → Keys → Option ℕ
 greatest_touching fragments keys =
-    greatest (map (λ (fragment : Fragment). fragment.number) (filter (λ (fragment : Fragment). touches fragment.keys keys) fragments))
+    greatest
+    (map (λ (fragment : Fragment). fragment.number)
+    (filter (λ (fragment : Fragment). touches fragment.keys keys) fragments))
 
 -- the greatest number of such a fragment of another open transaction
 unfoldable pub held_by : FoldState → TrxId → Keys → Option ℕ

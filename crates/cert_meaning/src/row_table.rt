@@ -23,7 +23,10 @@ impl Model for RowTable {
 
     ghost Value = { Roomy };
 
-    ghost view = { λ table. record { rows = from_entries table.rows.entries; spare = spare table.rows } };
+    ghost view = { λ table. record {
+      rows = from_entries table.rows.entries;
+      spare = spare table.rows;
+    } };
 }
 
 impl RowTable {
