@@ -1,5 +1,5 @@
 -- What passed and is not committed: the answers are those of the order.
-use Rattle.std.proofs.Common.{◌≡◌, ℕ, ◌≤◌, ◌<◌, Bool, true, false, cond, List, [], ◌∷◌, Option, Some, None, refl, sym, ap, subst, ◌∙◌, arith, true≢false, lt-ltb, eqb-true}
+use Rattle.std.proofs.Common.{◌≡◌, ℕ, ◌≤◌, ◌<◌, Bool, true, false, cond, List, [], ◌∷◌, Some, refl, sym, ap, subst, ◌∙◌, true≢false, lt-ltb, eqb-true}
 use Rattle.std.specs.Prelude.{nat_lt, ◌==◌, ◌&&◌, map, IsTrue, is_some}
 use Rattle.std.specs.List.{filter}
 use Rattle.wsrep_base.specs.Trx.{greatest}
@@ -8,7 +8,7 @@ use Rattle.key_sets.specs.Keys.{Keys, touches}
 use Rattle.order_event.specs.declared.event.Event.{Event}
 use Rattle.cert_meaning.specs.declared.items.CommitItem.{CommitItem}
 use Rattle.cert_meaning.specs.State.{FoldState, commit_numbered}
-use Rattle.cert_meaning.specs.Search.{is_related, commits_below, greatest_related}
+use Rattle.cert_meaning.specs.Search.{is_related, commits_below}
 use Rattle.cert_meaning.specs.Verdict.{held_by}
 use Rattle.cert_meaning.specs.Fold.{state_at}
 use Rattle.node_meaning.specs.Node.{ahead, passed_at}

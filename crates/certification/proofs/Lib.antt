@@ -2,3 +2,4 @@ pub mod Ahead
 pub mod Certifying
 pub mod Changes
 pub mod Needed
+pub mod Verdicts

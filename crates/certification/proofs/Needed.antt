@@ -1,13 +1,12 @@
 -- What certification needs of a state is enough: over it each event has the same verdict and commits the same changes, and leads to
 -- what is needed of the next state.
-use Rattle.std.proofs.Common.{◌≡◌, ℕ, ◌+◌, ◌≤◌, ◌<◌, Bool, true, false, cond, ◌&&◌, ◌||◌, List, [], ◌∷◌, ◌++◌, Option, None, Some, refl, ap, sym, ◌∙◌, arith, ltb-false, le-ltb}
+use Rattle.std.proofs.Common.{◌≡◌, ℕ, ◌+◌, ◌≤◌, Bool, true, false, cond, ◌&&◌, ◌||◌, List, [], ◌∷◌, ◌++◌, Option, None, Some, refl, ap, sym, ◌∙◌, arith, ltb-false, le-ltb}
 use Rattle.std.specs.Prelude.{◌==◌, nat_lt, nat_le, not, map, unwrap_or}
 use Rattle.std.specs.List.{filter}
 use Rattle.std.specs.Ordering.{nat_cmp}
 use Rattle.finite_map.specs.FiniteMap.{FiniteMap, get, insert, empty}
 use Rattle.wsrep_base.specs.Trx.{greatest}
 use Rattle.wsrep_base.specs.declared.verdict.Verdict.TheVariants.{Pass, Stranger, Repeat, Future, Stale, Broken}
-use Rattle.wsrep_base.specs.declared.verdict.Judged.{Judged}
 use Rattle.key_sets.specs.Keys.{Keys, conflicts}
 use Rattle.order_event.specs.declared.event.Event.{Event}
 use Rattle.order_event.specs.declared.event.Event.TheVariants.{Write, View, Report}

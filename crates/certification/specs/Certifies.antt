@@ -1,5 +1,5 @@
 -- what a node keeps of certification, and when it answers as an order says
-use Rattle.std.specs.Prelude.{◌≡◌, ◌≤◌, ◌<◌, ℕ, ◌+◌, ◌^◌, nat_lt, List, length, Option, Some, is_some, IsTrue}
+use Rattle.std.specs.Prelude.{◌≡◌, ◌≤◌, ◌<◌, ℕ, zero, suc, ◌+◌, ◌-◌, ◌^◌, nat_lt, List, [], ◌∷◌, length, Option, Some, is_some, IsTrue}
 use Rattle.std.specs.List.{filter}
 use Rattle.std.specs.Ordering.{nat_cmp}
 use Rattle.finite_map.specs.FiniteMap.{FiniteMap, empty, get, insert, contains_key}
@@ -15,7 +15,7 @@ use Rattle.cert_meaning.specs.Search.{commits_below, greatest_related}
 use Rattle.cert_meaning.specs.Verdict.{held_by}
 use Rattle.cert_meaning.specs.Fold.{state_at, judged}
 use Rattle.node_meaning.specs.Facts.{commit_at}
-use Rattle.node_meaning.specs.Units.{ops_at}
+use Rattle.node_meaning.specs.Units.{ops_at, judged_at}
 
 pub record ModelCertification : Type 0 where
   -- nobody asks for its rows, and commits up to a number may be missing
@@ -23,6 +23,8 @@ pub record ModelCertification : Type 0 where
   pub dropped : ℕ
   -- all changes of each passed commit that is not committed, by its number
   pub changes : FiniteMap nat_cmp (List Op)
+  -- what became of each number that is certified and not committed, in their order
+  pub verdicts : List Judged
 
 -- the commits with greater numbers
 abbrev pub commits_above : ℕ → List CommitItem → List CommitItem
@@ -41,6 +43,16 @@ pub record KeepsChanges (order : List Event) (committed certified : ℕ)
   pub only : (number : ℕ) → IsTrue (contains_key changes number)
       → (committed < number) × (number ≤ certified)
 
+-- what became of so many events after the one with a number
+abbrev pub judged_after : List Event → ℕ → ℕ → List Judged
+judged_after order number zero = []
+judged_after order number (suc count) =
+    judged_at order (suc number) ∷ judged_after order (suc number) count
+
+-- what became of the events that are certified and not committed
+abbrev pub judged_between : List Event → ℕ → ℕ → List Judged
+judged_between order committed certified = judged_after order committed (certified - committed)
+
 -- it stands for the state of the order, of which nothing is missing that is asked for: commits
 -- above what is committed, and those against which a write set is tested that is not stale
 pub record Certifies (order : List Event) (committed certified : ℕ)
@@ -50,6 +62,7 @@ pub record Certifies (order : List Event) (committed certified : ℕ)
   pub has_tested : c.dropped ≤ (state_at order certified).floor
   pub state : needed c.dropped c.state ≡ needed c.dropped (state_at order certified)
   pub changes : KeepsChanges order committed certified c.changes
+  pub verdicts : c.verdicts ≡ judged_between order committed certified
 
 -- there is such an order, and one more number
 pub record CanCertify (c : ModelCertification) : Type 0 where

@@ -2,6 +2,7 @@ ghost use Rattle.std.specs.Prelude.{◌≡◌, ◌≤◌, ◌+◌, ◌<◌, ℕ,
 ghost use Rattle.std.specs.Option.{option_copied};
 ghost use Rattle.order_event.specs.declared.event.Event.{Event as Ordered};
 ghost use Rattle.cert_meaning.specs.Fold.{set_in};
+ghost use Rattle.node_meaning.specs.Units.{judged_at};
 ghost use Rattle.node_parts.specs.Passed.{AllBefore};
 ghost use Rattle.certification.specs.Certifies.{Certifies, CanCertify, IsNext, commit_with, touching_between, holder_of, changes_with, with_changes};
 
@@ -11,6 +12,7 @@ use node_parts::Passed;
 use order_event::Event;
 use row_model::OpList;
 use std::alloc::Global;
+use std::collections::VecDeque;
 use std::marker::Model;
 use write_set::WriteSet;
 use wsrep_base::{Judged, NoMemory, TrxId};
@@ -30,6 +32,8 @@ pub struct Certification {
     state: FoldState,
     /// The changes of passed commits that are not committed.
     passed: Passed,
+    /// What became of the numbers that are certified and not committed, oldest first.
+    verdicts: VecDeque<Judged>,
 }
 
 impl Model for Certification {
@@ -37,7 +41,12 @@ impl Model for Certification {
 
     ghost Value = { ModelCertification };
 
-    ghost view = { λ c. record { state = c.state; dropped = 0; changes = c.passed.ops } };
+    ghost view = { λ c. record {
+      state = c.state;
+      dropped = 0;
+      changes = c.passed.ops;
+      verdicts = c.verdicts.items;
+    } };
 }
 
 impl Certification {
@@ -48,6 +57,7 @@ impl Certification {
         Ok(Certification {
             state: FoldState::empty(alloc)?,
             passed: Passed::new(alloc),
+            verdicts: VecDeque::new(alloc),
         })
     }
 
@@ -63,22 +73,30 @@ impl Certification {
         ensures err { OnErr result (self.new ≡ self.old) }
     {
         self.passed.reserve_one()?;
+        self.verdicts.reserve(1)?;
         let told = self.state.step_told(event)?;
         let number = self.state.number();
         keep_changes(&mut self.passed, number, told.judged, told.changes);
+        self.verdicts.push_back_reserved(told.judged);
         Ok(Certified {
             judged: told.judged,
             set: told.set,
         })
     }
 
-    /// The number is committed, which is the next one.
-    pub fn commit(&mut self, number: u64)
-        ensures { (order : List Ordered) (committed certified : ℕ)
+    /// The number is committed, which is the next one. Tells what became of it; None where it is
+    /// not certified. It takes no memory.
+    pub fn commit(&mut self, number: u64) -> Option<Judged>
+        ensures judged { (order : List Ordered) (committed certified : ℕ)
+            → Certifies order committed certified self.old
+            → number ≡ committed + 1 → committed < certified
+            → result ≡ Some (judged_at order number) }
+        ensures certifies { (order : List Ordered) (committed certified : ℕ)
             → Certifies order committed certified self.old
             → number ≡ committed + 1 → Certifies order number certified self.new }
     {
         self.passed.remove(number);
+        self.verdicts.pop_front()
     }
 
     /// The passed commit with this number, which is not committed. It costs a search by halves.

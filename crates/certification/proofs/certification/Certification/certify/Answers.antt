@@ -1,5 +1,5 @@
 -- The next event is certified over each order for which the part stands.
-use Rattle.std.proofs.Common.{◌+◌, refl, ap, sym, subst, ◌∙◌, arith}
+use Rattle.std.proofs.Common.{[], ◌∷◌, ◌++◌, refl, ap, sym, subst, ◌∙◌, arith}
 use Rattle.finite_map.specs.FiniteMap.{get}
 use Rattle.certification.specs.Certifies.{ModelCertification, Certifies, with_changes}
 use Rattle.certification.proofs.Certifying.{number-is, all_before, is_next}
@@ -29,3 +29,4 @@ returns-clause-ok c order committed certified is fits there =
     ∙ ap (λ ops. with_changes c.in_ok-told.told.judged ops c.number-number.result c.in_ok-told.told.changes) c.in_ok-reserve_one.ensures.ops
     ∙ ap (λ n. with_changes c.in_ok-told.told.judged c.self.inside.passed.ops n c.in_ok-told.told.changes) c.number-number.ensures)
     c.in_ok-told.ensures.number
+    (c.push_back_reserved.ensures.items ∙ ap (λ js. js ++ c.in_ok-told.told.judged ∷ []) c.in_ok-reserve.ensures.items)
