@@ -1,11 +1,14 @@
 ghost use Rattle.std.specs.Prelude.{◌≡◌, ◌≤◌, ◌+◌, ◌<◌, ℕ, List, Some, slice_get, IfOk, OnErr};
 ghost use Rattle.std.specs.Option.{option_copied};
 ghost use Rattle.order_event.specs.declared.event.Event.{Event as Ordered};
-ghost use Rattle.cert_meaning.specs.Fold.{set_in};
+ghost use Rattle.finite_map.specs.FiniteMap.{len};
+ghost use Rattle.cert_meaning.specs.Fold.{set_in, state_at};
+ghost use Rattle.node_meaning.specs.Status.{index_count};
 ghost use Rattle.node_meaning.specs.Units.{judged_at};
 ghost use Rattle.node_parts.specs.Passed.{AllBefore};
-ghost use Rattle.certification.specs.Certifies.{Certifies, CanCertify, IsNext, commit_with, touching_between, holder_of, changes_with, with_changes};
+ghost use Rattle.certification.specs.Certifies.{Certifies, IsCertifying, CanCertify, IsNext, commit_with, touching_between, holder_of, changes_with, with_changes};
 
+use crate::counting::count_above;
 use cert_meaning::{CommitItem, FoldState};
 use key_sets::KeySet;
 use node_parts::Passed;
@@ -130,6 +133,36 @@ impl Certification {
         ensures { result ≡ holder_of other_than keys.now self.now }
     {
         self.state.held_by(keys, other_than)
+    }
+
+    /// The least report of the members: what saw less is stale.
+    pub fn floor(&self) -> u64
+        ensures { (order : List Ordered) (committed certified : ℕ)
+            → Certifies order committed certified self.now
+            → result ≡ (state_at order certified).floor }
+    {
+        self.state.floor()
+    }
+
+    /// How many transactions are open.
+    pub fn open_trx(&self) -> u64
+        ensures { (order : List Ordered) (committed certified : ℕ)
+            → Certifies order committed certified self.now
+            → result ≡ len (state_at order certified).open_trx }
+    {
+        self.state.open_count()
+    }
+
+    /// How many different kinds at parts the commits have that a write set may still be tested
+    /// against, or that are not committed. It costs all commits, and the memory of an index.
+    pub fn entries(&self, committed: u64) -> Result<u64, NoMemory>
+        requires { IsCertifying committed self.now }
+        ensures { IfOk result (λ count. (order : List Ordered) (certified : ℕ)
+            → Certifies order committed certified self.now
+            → count ≡ index_count (state_at order certified) committed) }
+    {
+        let above = self.state.floor().min(committed);
+        count_above(*self.verdicts.allocator(), above, self.state.commits())
     }
 }
 

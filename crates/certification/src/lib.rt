@@ -1,7 +1,8 @@
-//! What a node needs of certification: the verdict of the next event, and what passed and is not
-//! committed.
+//! What a node needs of certification: the verdict of the next event, what passed and is not
+//! committed, and what its status tells.
 #![tactic(auto)]
 
 mod certification;
+mod counting;
 
 pub use certification::{Certification, Certified};
