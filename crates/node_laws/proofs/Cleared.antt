@@ -1,16 +1,22 @@
--- Nothing is queued at a node that has left, and each of its live transactions has sent its commit.
-use Rattle.std.proofs.Common.{◌≡◌, ℕ, ◌+◌, Bool, true, false, cond, List, [], ◌++◌, None, Some, refl, ap, sym, ◌∙◌, true≢false}
-use Rattle.std.specs.Prelude.{◌&&◌, nat_lt}
+-- Nothing is queued at a node that has left, each of its live transactions has sent its commit, and
+-- it takes nothing more.
+use Rattle.std.proofs.Common.{◌≡◌, ℕ, zero, suc, ◌+◌, ◌-◌, length, Bool, true, false, cond, List, [], ◌++◌, None, Some, refl, ap, sym, ◌∙◌, true≢false}
+use Rattle.std.specs.Prelude.{slice_get, ◌&&◌, nat_lt}
+use Rattle.std.proofs.lemmas.Bool.{false_from_ne_true}
 use Rattle.finite_map.specs.FiniteMap.{insert, remove}
 use Rattle.finite_map.proofs.Edits.{numbers, each_put, each_left}
 use Rattle.order_event.specs.declared.event.Event.{Event}
 use Rattle.order_event.specs.declared.event.Message.{Message}
+use Rattle.order_event.specs.declared.step.Answer.{Answer}
+use Rattle.order_event.specs.declared.step.Answer.TheVariants as answer
 use Rattle.write_set.specs.declared.write_set.WriteSet.{WriteSet}
 use Rattle.client_trx.specs.Live.{Live, is_uncommitted, with_status, passed_status, rollback_due, rollback_of}
 use Rattle.client_trx.specs.declared.status.Status.{Status}
 use Rattle.client_trx.specs.declared.status.Status.TheVariants as status
-use Rattle.node_meaning.specs.Node.{ModelNode, is_left}
+use Rattle.node_meaning.specs.Node.{ModelNode, is_left, is_connected}
+use Rattle.node_meaning.specs.declared.progress.Phase.{Phase}
 use Rattle.node_meaning.specs.Leaving.{told_at_leave, left_node}
+use Rattle.node_meaning.specs.Steps.{take_event, take_step, times, all_taken}
 use Rattle.node_laws.specs.InStep.{IsCleared}
 use Rattle.node_laws.proofs.Moves.{Kind, Move, Begins, Extends, Streams, Sends, Ends, TakesBack, Unlocks, Reports, Orders, Leaves, Takes, Passes, Fails, Commits, IsRunning, Unlocked, Sent, Passed, May, Reaches, kept}
 use Rattle.node_laws.proofs.LeftSets.{front_none}
@@ -133,3 +139,24 @@ left_cleared n = record {
   none_waits = refl;
   committing = λ s t is. told_sent _ t.status ((may_leave n).stay s t is);
 }
+
+-- ---- it takes nothing, and so does its drain
+not_connected : (now : Phase) → is_left now ≡ true → is_connected now ≡ false
+not_connected now left =
+    false_from_ne_true (is_connected now) (λ connected. left_not_in now left connected)
+
+times_same : (k : ℕ) (f : ModelNode → ModelNode) (n : ModelNode) → f n ≡ n → times k f n ≡ n
+times_same zero f n same = refl
+times_same (suc k) f n same = ap (times k f) same ∙ times_same k f n same
+
+module _ (order : List Event) (n : ModelNode) (left : is_left n.at.phase ≡ true) where
+  pub take_left : take_step order n ≡ (answer.Nothing, n)
+  unfolding take_step
+  take_left =
+      ap (λ b. cond b (take_event n (slice_get order n.at.taken)) (answer.Nothing, n))
+      (not_connected n.at.phase left)
+
+  pub all_taken_left : all_taken order n ≡ n
+  all_taken_left =
+      times_same (length order - n.at.taken) (λ m. (take_step order m).1) n
+      (ap (λ (x : Answer × ModelNode). x.1) take_left)

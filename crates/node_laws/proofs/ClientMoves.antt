@@ -97,7 +97,8 @@ module _ (order : List Event) (works : Bool) (n : ModelNode) (s : ℕ) where
         back_moves t there range (rollback_due t n.at.serial n.at.committed) refl
 
   served_moves : (o : Option Live) (c : Call) → is_left n.at.phase ≡ false → get n.live s ≡ o
-      → get n.waiting s ≡ None → is_pending o ≡ false → Reaches order (CanCall n c) works n 1 (served order n s o c).1
+      → get n.waiting s ≡ None → is_pending o ≡ false
+      → Reaches order (CanCall n c) works n 1 (served order n s o c).1
   served_moves o (call.Begin unit) stays there told idle = begin_moves _ unit o stays there told
   served_moves o (call.Insert id row) stays there told idle =
       statement_moves _ o (inserting id row) there idle

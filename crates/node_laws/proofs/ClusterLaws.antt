@@ -1,5 +1,5 @@
--- Over runs of a cluster: how fast it grows, that each node keeps its facts and is in step with the order until it leaves,
--- that members differ, and that no session has a transaction while an answer waits for it.
+-- Over runs of a cluster: how fast it grows, that each node keeps its facts and is in step with the
+-- order until it leaves, that members differ, and that no session has a transaction while an answer waits for it.
 use Rattle.std.proofs.Common.{◌≡◌, ◌⊎◌, inl, inr, ℕ, zero, suc, ◌+◌, ◌≤◌, ◌<◌, ◌^◌, true, false, List, [], ◌∷◌, ◌++◌, length, Some, refl, ap, sym, subst, ◌∙◌, arith, length-append, true≢false}
 use Rattle.std.specs.Prelude.{slice_get, map}
 use Rattle.std.specs.List.{AllByRecursion}
@@ -110,7 +110,12 @@ stepped_grows c given ordered d (Left i n there stays) =
       size = omega (arith, zero_grows.size);
     } in
     record {
-      size = omega (arith, sizes-set c.nodes i n m there, zero_grows.size, length-append c.order view);
+      size = omega (
+        arith,
+        sizes-set c.nodes i n m there,
+        zero_grows.size,
+        length-append c.order view,
+      );
       order = length-append c.order view;
       count = set_count c.nodes i m;
       each = λ j o at. grown_by c.nodes i n m there grows j o (found c.nodes i m j o at);
@@ -174,8 +179,9 @@ pub record SoundCluster (most : ℕ) (c : ModelCluster) : Type 0 where
 
 -- a node after moves that let it grow by at most one
 reached_sound : (most : ℕ) (order : List Event) (given : Type 0) → given → (n : ModelNode) (k : ℕ) (m : ModelNode)
-    → Reaches order given true n k m → Facts order n → (is_left n.at.phase ≡ false → IsInStep order n)
-    → ClearedOnceLeft n → AreIdle n.waiting n.live → n.at.member < 2 ^ 32 → n.at.serial + len n.live + k ≤ most → n.at.begin + k ≤ most → Sound most order m
+    → Reaches order given true n k m → Facts order n
+    → (is_left n.at.phase ≡ false → IsInStep order n) → ClearedOnceLeft n
+    → AreIdle n.waiting n.live → n.at.member < 2 ^ 32 → n.at.serial + len n.live + k ≤ most → n.at.begin + k ≤ most → Sound most order m
 reached_sound most order given g n k m row facts in_step cleared idle member serial begin =
     let grows = reach_grows order given true n k m row in record {
       facts = facts_reached order given true g n k m row facts;
@@ -233,7 +239,8 @@ module _ (most : ℕ) (c : ModelCluster) (small : most < 2 ^ 63) (sound : SoundC
   }
 
   -- and one over an order that grows by what is in step with it
-  over_sound : (more : List Event) (n : ModelNode) → (IsInStep c.order n → IsInStep (c.order ++ more) n)
+  over_sound : (more : List Event) (n : ModelNode)
+      → (IsInStep c.order n → IsInStep (c.order ++ more) n)
       → Sound most c.order n → Sound (most + 1) (c.order ++ more) n
   over_sound more n in_step s = record {
     facts = facts_grow c.order more n s.facts;
@@ -314,7 +321,10 @@ module _ (most : ℕ) (c : ModelCluster) (small : most < 2 ^ 63) (sound : SoundC
 
     left_sound : (i : ℕ) (n : ModelNode) → slice_get c.nodes i ≡ Some n
         → SoundCluster (most + 1)
-        (record { order = c.order ++ view_without c.order n.at.member ∷ []; nodes = set_at c.nodes i (left_node n) })
+        (record {
+          order = c.order ++ view_without c.order n.at.member ∷ [];
+          nodes = set_at c.nodes i (left_node n);
+        })
     left_sound i n there =
         let view = view_without c.order n.at.member ∷ [] in
         let s = sound.nodes i n there in
@@ -322,7 +332,8 @@ module _ (most : ℕ) (c : ModelCluster) (small : most < 2 ^ 63) (sound : SoundC
         let grows = left_grows n in
         let new : Sound (most + 1) (c.order ++ view) m = record {
           facts = facts_left_over n c.order view s.facts;
-          in_step = λ stays. absurd (true≢false (ap (λ (at : Progress). is_left at.phase) (sym (left_at n)) ∙ stays));
+          in_step = λ stays. absurd (true≢false
+              (ap (λ (at : Progress). is_left at.phase) (sym (left_at n)) ∙ stays));
           cleared = λ left. left_cleared n;
           idle = left_idle n s.idle;
           serial = omega (arith, s.serial, grows.serial);
@@ -330,7 +341,13 @@ module _ (most : ℕ) (c : ModelCluster) (small : most < 2 ^ 63) (sound : SoundC
           member = subst (λ k. k < 2 ^ 32) (sym grows.member) s.member;
         } in
         record {
-          size = omega (arith, sound.size, sizes-set c.nodes i n m there, grows.size, length-append c.order view);
+          size = omega (
+            arith,
+            sound.size,
+            sizes-set c.nodes i n m there,
+            grows.size,
+            length-append c.order view,
+          );
           differ = differ_set c.nodes i n m there grows.member sound.differ;
           nodes = λ j o at. all_sound (c.order ++ view) i m new
               (λ k x beside was.

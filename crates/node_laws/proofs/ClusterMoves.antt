@@ -1,5 +1,5 @@
--- Every step of a cluster is moves of one of its nodes, and orders messages at the front of that node's outbox, or a view
--- without it.
+-- Every step of a cluster is moves of one of its nodes, and orders messages at the front of that
+-- node's outbox, or a view without it.
 use Rattle.std.proofs.Common.{◌≡◌, ℕ, ◌-◌, Bool, true, false, cond, List, [], ◌∷◌, ◌++◌, length, Option, None, Some, refl, ap, sym, append-nil}
 use Rattle.std.specs.Prelude.{slice_get, map}
 use Rattle.order_event.specs.declared.event.Message.{Message}

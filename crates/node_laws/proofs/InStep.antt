@@ -114,17 +114,19 @@ module _ (order : List Event) (n : ModelNode) (inside : n.at.taken ≤ length or
       ∙ ap (λ ms. n.ordered ++ ms) (other_messages n.at.member other differs front) ∙ append-nil n.ordered)
 
   -- by a view
-  pub in_step_viewed : (version : ℕ) (members : List ℕ) → IsInStep (order ++ event.View version members ∷ []) n
-  in_step_viewed version members = sym (behind_more (event.View version members ∷ []) ∙ append-nil n.ordered)
+  pub in_step_viewed : (version : ℕ) (members : List ℕ)
+      → IsInStep (order ++ event.View version members ∷ []) n
+  in_step_viewed version members =
+      sym (behind_more (event.View version members ∷ []) ∙ append-nil n.ordered)
 
 -- ---- rows of moves: the node stays in the group, or out of it
-pub phase_moved : (order : List Event) (given : Type 0) (works : Bool) (n : ModelNode) (kind : Kind) (m : ModelNode)
-    → May works kind → Move order given n kind m → m.at.phase ≡ n.at.phase
+pub phase_moved : (order : List Event) (given : Type 0) (works : Bool) (n : ModelNode) (kind : Kind)
+    (m : ModelNode) → May works kind → Move order given n kind m → m.at.phase ≡ n.at.phase
 phase_moved order given works n kind m may (Leaves can) = absurd may
 phase_moved order given works n kind m may _ = refl
 
-pub phase_reached : (order : List Event) (given : Type 0) (works : Bool) (n : ModelNode) (k : ℕ) (m : ModelNode)
-    → Reaches order given works n k m → m.at.phase ≡ n.at.phase
+pub phase_reached : (order : List Event) (given : Type 0) (works : Bool) (n : ModelNode) (k : ℕ)
+    (m : ModelNode) → Reaches order given works n k m → m.at.phase ≡ n.at.phase
 phase_reached order given works n k m row =
     kept (λ o. o.at.phase ≡ n.at.phase)
     (λ o kind q may move h. phase_moved order given works o kind q may move ∙ h) n k m row refl
@@ -141,10 +143,11 @@ taken_moved order given n kind m (Takes e ordered there leaves) left =
     absurd (left_not_in n.at.phase left leaves.connected)
 taken_moved order given n kind m _ left = refl
 
-pub taken_reached : (order : List Event) (given : Type 0) (works : Bool) (n : ModelNode) (k : ℕ) (m : ModelNode)
-    → Reaches order given works n k m → is_left n.at.phase ≡ true → m.at.taken ≡ n.at.taken
+pub taken_reached : (order : List Event) (given : Type 0) (works : Bool) (n : ModelNode) (k : ℕ)
+    (m : ModelNode) → Reaches order given works n k m → is_left n.at.phase ≡ true → m.at.taken ≡ n.at.taken
 taken_reached order given works n k m row left =
     (kept (λ o. (is_left o.at.phase ≡ true) × (o.at.taken ≡ n.at.taken))
-    (λ o kind q may move h.
-    (ap is_left (phase_moved order given works o kind q may move) ∙ h.0, taken_moved order given o kind q move h.0 ∙ h.1))
-    n k m row (left, refl)).1
+    (λ o kind q may move h. (
+      ap is_left (phase_moved order given works o kind q may move) ∙ h.0,
+      taken_moved order given o kind q move h.0 ∙ h.1,
+    )) n k m row (left, refl)).1

@@ -119,8 +119,8 @@ module _ (n : ModelNode) where
   pub may_leave : MayLeave (sessions_left n)
   may_leave = record {
     stay = λ s t is.
-        subst (λ (m : ModelNode). told_at_leave (waits_in (m.ordered ++ m.outbox) t) t.status ≡ None)
-        (sym left_only)
+        subst (λ (m : ModelNode). told_at_leave (waits_in (m.ordered ++ m.outbox) t) t.status
+        ≡ None) (sym left_only)
         (left_remain.taken s t is (in_from_get n.live s t (left_remain.was s t is)));
   }
 

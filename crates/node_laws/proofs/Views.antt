@@ -141,8 +141,8 @@ module _ (most : ℕ) (c : ModelCluster) (sound : SoundCluster most c) (h : View
       but_other n.at.member o.at.member (apart j o beside at) (last_view c.order).1
       ∙ ap (is_among o.at.member) h.last
       ∙ lacks_member o.at.member c.nodes (λ k x was stays same.
-      true≢false (sym left ∙ ap is_left (same_phase j o k x at was (sound.differ k j x o was at same))
-      ∙ stays))
+      let phase = same_phase j o k x at was (sound.differ k j x o was at same) in
+      true≢false (sym left ∙ ap is_left phase ∙ stays))
     where
       same_phase : (j : ℕ) (o : ModelNode) (k : ℕ) (x : ModelNode) → slice_get c.nodes j ≡ Some o
           → slice_get c.nodes k ≡ Some x → k ≡ j → o.at.phase ≡ x.at.phase
@@ -186,6 +186,8 @@ module _ (most : ℕ) (c : ModelCluster) (sound : SoundCluster most c) (h : View
     pub leave_views : ViewsStand (record { order = c.order ++ view; nodes = set_at c.nodes i m })
     leave_views =
         let last = last_added c.order (last_view c.order).0 left_members in
+        let as_many : length (last_view c.order).1 ≡ length (members_in c.nodes) =
+        ap length h.last in
         record {
           last = ap (λ (v : ℕ × List ℕ). v.1) last ∙ ap (all_but n.at.member) h.last
               ∙ sym (members_left c.nodes i n m there stays now_left
@@ -193,9 +195,13 @@ module _ (most : ℕ) (c : ModelCluster) (sound : SoundCluster most c) (h : View
           rising = ap (λ (v : ℕ × List ℕ). rise v.1) last
               ∙ but_rises n.at.member None (last_view c.order).1 h.rising;
           few = all_both HasFewMembers c.order view h.few (
-            (let fewer = but_fewer n.at.member (last_view c.order).1 in
-                let as_many : length (last_view c.order).1 ≡ length (members_in c.nodes) = ap length h.last in
-                omega (arith, fewer, as_many, members_fewer c.nodes, h.count)),
+            omega (
+              arith,
+              but_fewer n.at.member (last_view c.order).1,
+              as_many,
+              members_fewer c.nodes,
+              h.count,
+            ),
             tt,
           );
           count = omega (arith, set_count c.nodes i m, h.count);

@@ -32,7 +32,7 @@ taken_acts order n =
     replicate (n.at.taken - n.at.certified) act.Certify
     ++ certified_acts order (all_certified order n)
 
--- and of one of whose messages none waits
+-- and of one of whose messages none waits; at a node that has left the takes do nothing
 abbrev pub sent_acts : List Event × ModelNode → List Act
 sent_acts (order, n) =
     replicate (length order - n.at.taken) act.Take ++ taken_acts order (all_taken order n)
