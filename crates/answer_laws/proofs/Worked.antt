@@ -1,6 +1,9 @@
 -- The worked run and the worked course tell these answers.
-use Rattle.std.proofs.Common.{refl}
-use Rattle.answer_laws.specs.Worked.{computing_answers, FirstCommits, SecondFails, LeavingTells, LeavesWithView}
+use Rattle.std.proofs.Common.{refl, arith}
+use Rattle.std.specs.Prelude.{[], ◌∷◌, Some, None, replicate}
+use Rattle.row_model.specs.declared.calls.Call.TheVariants as call
+use Rattle.node_meaning.specs.Facts.{CallInRange}
+use Rattle.answer_laws.specs.Worked.{computing_answers, row, other, FirstCommits, SecondFails, LeavingFits, LeavingTells, LeavesWithView}
 
 first_commits : FirstCommits
 unfolding computing_answers
@@ -9,6 +12,63 @@ first_commits = refl
 second_fails : SecondFails
 unfolding computing_answers
 second_fails = refl
+
+-- the values are in range
+in_row : CallInRange (call.Insert row (100 ∷ []))
+unfolding computing_answers
+in_row = ((refl, refl), omega arith, omega arith, (omega arith, tt))
+
+in_change : CallInRange (call.Update row (Some 70 ∷ replicate 7 None))
+unfolding computing_answers
+in_change =
+    ((refl, refl), refl, (omega arith, (tt, (tt, (tt, (tt, (tt, (tt, (tt, tt)))))))))
+
+in_other : CallInRange (call.Insert other (5 ∷ []))
+unfolding computing_answers
+in_other = ((refl, refl), omega arith, omega arith, (omega arith, tt))
+
+leaving_fits : LeavingFits
+unfolding computing_answers
+leaving_fits = (
+  tt,
+  (
+    (refl, tt),
+    (
+      (refl, in_row),
+      (
+        (refl, tt),
+        (
+          tt,
+          (
+            (refl, tt),
+            (
+              (refl, tt),
+              (
+                (refl, in_change),
+                (
+                  (refl, tt),
+                  (
+                    (refl, tt),
+                    (
+                      (refl, in_other),
+                      (
+                        tt,
+                        (
+                          (refl, tt),
+                          ((refl, tt), ((refl, tt), (tt, tt))),
+                        ),
+                      ),
+                    ),
+                  ),
+                ),
+              ),
+            ),
+          ),
+        ),
+      ),
+    ),
+  ),
+)
 
 leaving_tells : LeavingTells
 unfolding computing_answers

@@ -21,7 +21,7 @@ use Rattle.node_meaning.specs.Client.{client}
 use Rattle.node_meaning.specs.Steps.{take_step, certify_step, start_step, finish_step, advance_step, drained}
 use Rattle.node_meaning.specs.Leaving.{sessions_left, left_node}
 use Rattle.node_meaning.specs.Cluster.{start_cluster, cluster_step, run}
-use Rattle.course_laws.specs.Courses.{Happens, Does, course, start_course}
+use Rattle.course_laws.specs.Courses.{Course, Happens, Does, course, AllFit, start_course}
 use Rattle.answer_laws.specs.Answers.{Asker, Told, told, told_run}
 
 -- what it unfolds
@@ -113,7 +113,7 @@ leaving =
     ∷ Does act.Drain
     ∷ asks 1 call.Poll
     ∷ asks 1 (call.Begin 0)
-    ∷ asks 1 (call.Update row (Some 70 ∷ []))
+    ∷ asks 1 (call.Update row (Some 70 ∷ replicate 7 None))
     ∷ asks 1 call.Commit
     ∷ asks 2 (call.Begin 0)
     ∷ asks 2 (call.Insert other (5 ∷ []))
@@ -124,6 +124,13 @@ leaving =
     ∷ Does act.Leave
     ∷ []
 
+abbrev pub leaver : Course
+leaver = start_course 2 (replicate 16 1) 1
+
+-- its calls fit, so that the law of all answers speaks of it
+abbrev pub LeavingFits : Type 0
+LeavingFits = AllFit leaver leaving
+
 -- the transaction of an answer, whether the answer had waited, and the answer
 abbrev pub with_waiting : Told → Option TrxId × Bool × Reply
 with_waiting t = (option_map (λ (a : Asker). a.trx) t.asker, t.waited, t.answer)
@@ -132,7 +139,7 @@ with_waiting t = (option_map (λ (a : Asker). a.trx) t.asker, t.waited, t.answer
 -- a later call is answered at once
 abbrev pub LeavingTells : Type 0
 LeavingTells =
-    map with_waiting (told (start_course 2 (replicate 16 1) 1) empty leaving)
+    map with_waiting (told leaver empty leaving)
     ≡ (None, false, reply.Done)
     ∷ (by 1 1, false, reply.Done)
     ∷ (by 1 1, false, reply.Pending)
@@ -150,6 +157,4 @@ LeavingTells =
 -- the node leaves with the third event, a view without its member, and the second leave orders
 -- nothing
 abbrev pub LeavesWithView : Type 0
-LeavesWithView =
-    drop 2 (course (start_course 2 (replicate 16 1) 1) leaving).order
-    ≡ event.View 1 (2 ∷ []) ∷ []
+LeavesWithView = drop 2 (course leaver leaving).order ≡ event.View 1 (2 ∷ []) ∷ []
