@@ -1,6 +1,6 @@
 -- Committing the next number does what the model does.
 use Rattle.std.proofs.Common.{◌≡◌, ℕ, ◌+◌, ◌≤◌, ◌<◌, Bool, true, false, cond, List, [], length, take, drop, Option, None, Some, refl, ap, sym, subst, ◌∙◌, arith}
-use Rattle.std.specs.Prelude.{◌==◌, ◌||◌, not, is_some, is_none}
+use Rattle.std.specs.Prelude.{◌==◌, ◌||◌, not, is_some, is_none, option_map}
 use Rattle.std.specs.Ordering.{nat_cmp}
 use Rattle.std.specs.Cmp.{nat_cmp_total}
 use Rattle.std.proofs.lemmas.Bool.{eqb-true, eq-eqb, false_from_ne_true}
@@ -12,6 +12,8 @@ use Rattle.row_model.specs.Rows.{Rows, ops_on}
 use Rattle.row_locks.specs.declared.holder.Holder.TheVariants.{Session, Unit as UnitHolder}
 use Rattle.row_locks.specs.Alike.{HoldAlike}
 use Rattle.row_locks.proofs.AlikeLaws.{alike_between, alike-remove}
+use Rattle.wsrep_base.specs.declared.verdict.Judged.{Judged}
+use Rattle.wsrep_watch.specs.declared.note.Note.{Note}
 use Rattle.order_event.specs.declared.event.Event.{Event}
 use Rattle.order_event.specs.declared.step.Answer.{Answer}
 use Rattle.order_event.specs.declared.step.Answer.TheVariants as answer
@@ -27,15 +29,16 @@ use Rattle.node_meaning.specs.Node.{ModelNode, ApplyUnit, rows_at, seen_rows, pa
 use Rattle.node_meaning.specs.declared.progress.Stage.{Stage}
 use Rattle.node_meaning.specs.declared.progress.Stage.TheVariants as stage
 use Rattle.node_meaning.specs.Steps.{is_certified_at, is_replaying_at, is_local, is_finished, committer_of, told_committed, committed_next, is_ready, advance_step}
-use Rattle.node_meaning.specs.Units.{ops_at, unit_task}
+use Rattle.node_meaning.specs.Units.{ops_at, unit_task, judged_at}
 use Rattle.node_meaning.proofs.EntryLaws.{less_from, some_not_none}
 use Rattle.node_meaning.proofs.LockLaws.{locks_of-remove, locks_of-remove_unit}
 use Rattle.node_meaning.proofs.UnitLaws.{rows-event, rows-committer, task-unit}
 use Rattle.node_meaning.proofs.AdvanceFacts.{committer_there, commits_at, rows-none, committer-none, not_local, unit-finished, units-local}
 use Rattle.node_parts.specs.Units.{Work, UnitTable, without, done_of, rows_of}
-use Rattle.node_core.specs.declared.node.Node.{Node}
+use Rattle.node_core.specs.declared.node.NodeParts.{NodeParts}
 use Rattle.node_core.specs.Tabled.{Tabled}
 use Rattle.node_core.specs.Advancing.{AreFree, results_of, TakesUnit, IsCommitted, AfterCommitter}
+use Rattle.node_core.specs.Watching.{noted, note_at}
 use Rattle.node_core.proofs.KeptFacts.{facts_advanced}
 use Rattle.node_core.specs.Stands.{Stands, Tables, AreWorked, IsWorked, HasTask, DoneOver, plain_of}
 use Rattle.node_core.proofs.Tabling.{tabled-put, tabled-kept}
@@ -46,6 +49,12 @@ use Rattle.node_core.proofs.ImageCalls.{put_named}
 not_some : {A : Type 0} (o : Option A) → not (is_some o) ≡ is_none o
 not_some None = refl
 not_some (Some a) = refl
+
+-- the end of a transaction leaves certification
+after_certification : (o : Option (ℕ × Live)) (number : ℕ) (mid new : NodeParts) → AfterCommitter o number mid new
+    → new.certification ≡ mid.certification
+after_certification None number mid new is = ap (λ (n : NodeParts). n.certification) is
+after_certification (Some e) number mid new is = ap (λ (n : NodeParts). n.certification) is.rest
 
 -- a transaction that commits at a number and has locks is Certified there
 certified_locks : (number : ℕ) (s : Status) → is_certified_at number s || is_replaying_at number s ≡ true → has_locks s ≡ true
@@ -88,7 +97,7 @@ no_results : (o : Option ModelTask) → is_some o ≡ false → results_of o ≡
 no_results None none = refl
 no_results (Some task) none = cc
 
-module _ (order : List Event) (old : Node) (stands : Stands order old) where
+module _ (order : List Event) (old : NodeParts) (stands : Stands order old) where
   abbrev next : ℕ
   next = old.at.committed + 1
 
@@ -144,10 +153,22 @@ module _ (order : List Event) (old : Node) (stands : Stands order old) where
         (ap is_none (commit-is order old.at.committed old.at.certified old.certification stands.certification next (omega arith))
         ∙ sym (not_some (passed_at order old.at.committed old.at.certified next)))
 
+    -- what certification tells of the number makes its note
+    pub note_told : (mid : NodeParts) → TakesUnit next old mid → (new : NodeParts) → AfterCommitter (committer_of mid.live next) next mid new
+        → (told : Option Judged) (given : Option Note)
+        → (Certifies order old.at.committed old.at.certified new.certification → next ≡ next → old.at.committed < old.at.certified
+            → told ≡ Some (judged_at order next))
+        → given ≡ option_map (noted next) told → given ≡ Some (note_at order next)
+    note_told mid takes new after told given judged is =
+        let same : new.certification ≡ old.certification =
+        after_certification (committer_of mid.live next) next mid new after ∙ ap (λ (n : NodeParts). n.certification) takes.rest in
+        is ∙ ap (option_map (noted next))
+        (judged (subst (Certifies order old.at.committed old.at.certified) (sym same) stands.certification) refl more)
+
     pub advance_waits : is_ready order (plain_of old) next ≡ false → DoneOver order (λ n. advance_step order n) old old (answer.NotReady next)
     advance_waits waits = record { same = sym (step_is false waits); stands = stands }
 
-    module _ (ready : is_ready order (plain_of old) next ≡ true) (mid : Node) (takes : TakesUnit next old mid) where
+    module _ (ready : is_ready order (plain_of old) next ≡ true) (mid : NodeParts) (takes : TakesUnit next old mid) where
       -- ---- the rows after the unit
       rows_finished : is_finished (get old.units.units next) ≡ true → Tabled (rows_at order next) old.live mid.rows
       rows_finished finished =
@@ -188,7 +209,7 @@ module _ (order : List Event) (old : Node) (stands : Stands order old) where
           (λ c is. rows_finished (unit-finished order (plain_of old) stands.facts more c is
           (not_local order (plain_of old) stands.facts more (λ s t one. absurd (some_not_none (s, t) (committer_of old.live next) one none))) ready))
 
-      module _ (s : ℕ) (t : Live) (one : committer_of old.live next ≡ Some (s, t)) (new : Node) (is : IsCommitted s next mid new) where
+      module _ (s : ℕ) (t : Live) (one : committer_of old.live next ≡ Some (s, t)) (new : NodeParts) (is : IsCommitted s next mid new) where
         here : (get old.live s ≡ Some t) × (commits_at next (s, t) ≡ true)
         here = committer_there order (plain_of old) stands.facts next s t one
 
@@ -236,7 +257,7 @@ module _ (order : List Event) (old : Node) (stands : Stands order old) where
           (λ waits. let none = ap length (no_results (done_of (get old.units.work next)) (takes.finished ∙ waits)) in
           omega (arith, none, takes.spare, stands.tables.room))
 
-      module _ (parts target : Node)
+      module _ (parts target : NodeParts)
           (target_is : target ≡ record old {
             at = record old.at { committed = old.at.committed + 1 };
             certification = target.certification;
@@ -267,10 +288,10 @@ module _ (order : List Event) (old : Node) (stands : Stands order old) where
         same = ap (λ m. (answer.At next, m)) plain_is ∙ sym (step_is true ready)
 
         committed_is : target.at.committed ≡ next
-        committed_is = ap (λ (m : Node). m.at.committed) target_is
+        committed_is = ap (λ (m : NodeParts). m.at.committed) target_is
 
         certified_is : target.at.certified ≡ old.at.certified
-        certified_is = ap (λ (m : Node). m.at.certified) target_is
+        certified_is = ap (λ (m : NodeParts). m.at.certified) target_is
 
         committed_tables : Tables order (record old {
           at = record old.at { committed = old.at.committed + 1 };
@@ -293,8 +314,8 @@ module _ (order : List Event) (old : Node) (stands : Stands order old) where
         advance_done = record {
           same = same;
           stands = record {
-            inbox = ap (λ (m : Node). m.inbox) target_is ∙ stands.inbox
-                ∙ sym (ap (λ (m : Node). drop m.at.certified (take m.at.taken order)) target_is);
+            inbox = ap (λ (m : NodeParts). m.inbox) target_is ∙ stands.inbox
+                ∙ sym (ap (λ (m : NodeParts). drop m.at.certified (take m.at.taken order)) target_is);
             certification = subst (λ (p : ℕ). Certifies order p target.at.certified target.certification) (sym committed_is)
                 (subst (λ (c : ℕ). Certifies order next c target.certification) (sym certified_is) certifies);
             tables = subst (Tables order) (sym target_is) committed_tables;
@@ -304,13 +325,13 @@ module _ (order : List Event) (old : Node) (stands : Stands order old) where
 
       -- ---- the node after both
       mid_base : mid ≡ record old { units = mid.units; live = mid.live; waiting = mid.waiting; locks = mid.locks; rows = mid.rows }
-      mid_base = ap (λ (m : Node). record m { live = mid.live; waiting = mid.waiting }) takes.rest
+      mid_base = ap (λ (m : NodeParts). record m { live = mid.live; waiting = mid.waiting }) takes.rest
 
       mid_live : mid.live ≡ old.live
-      mid_live = ap (λ (m : Node). m.live) takes.rest
+      mid_live = ap (λ (m : NodeParts). m.live) takes.rest
 
       mid_waiting : mid.waiting ≡ old.waiting
-      mid_waiting = ap (λ (m : Node). m.waiting) takes.rest
+      mid_waiting = ap (λ (m : NodeParts). m.waiting) takes.rest
 
       mid_locks : HoldAlike mid.locks.locks (locks_of old.live (remove old.units.units next))
       mid_locks =
@@ -318,7 +339,7 @@ module _ (order : List Event) (old : Node) (stands : Stands order old) where
           (alike-remove old.locks.locks (locks_of old.live old.units.units) (UnitHolder next) stands.tables.locks)
           (sym (locks_of-remove_unit old.live old.units.units next))
 
-      module _ (new target : Node)
+      module _ (new target : NodeParts)
           (target_is : target ≡ record new { at = record new.at { committed = old.at.committed + 1 }; certification = target.certification })
           (committed : Certifies order old.at.committed old.at.certified new.certification → Certifies order next old.at.certified target.certification) where
         module _ (base : new ≡ record old { units = new.units; live = new.live; waiting = new.waiting; locks = new.locks; rows = new.rows }) where
@@ -331,39 +352,39 @@ module _ (order : List Event) (old : Node) (stands : Stands order old) where
             locks = new.locks;
             rows = new.rows;
           }
-          whole = target_is ∙ ap (λ (m : Node). record m { at = record m.at { committed = old.at.committed + 1 }; certification = target.certification }) base
+          whole = target_is ∙ ap (λ (m : NodeParts). record m { at = record m.at { committed = old.at.committed + 1 }; certification = target.certification }) base
 
           whole_certified : Certifies order next old.at.certified target.certification
           whole_certified =
-              committed (subst (Certifies order old.at.committed old.at.certified) (sym (ap (λ (m : Node). m.certification) base)) stands.certification)
+              committed (subst (Certifies order old.at.committed old.at.certified) (sym (ap (λ (m : NodeParts). m.certification) base)) stands.certification)
 
         done_none : committer_of old.live next ≡ None → new ≡ mid → DoneOver order (λ n. advance_step order n) old target (answer.At next)
         done_none none is =
-            let base = subst (λ (m : Node). m ≡ record old { units = m.units; live = m.live; waiting = m.waiting; locks = m.locks; rows = m.rows }) (sym is) mid_base in
-            let live_is : new.live ≡ old.live = ap (λ (m : Node). m.live) is ∙ mid_live in
-            let waiting_is : new.waiting ≡ old.waiting = ap (λ (m : Node). m.waiting) is ∙ mid_waiting in
-            advance_done new target (whole base) (ap (λ (m : Node). m.units) is ∙ takes.units)
+            let base = subst (λ (m : NodeParts). m ≡ record old { units = m.units; live = m.live; waiting = m.waiting; locks = m.locks; rows = m.rows }) (sym is) mid_base in
+            let live_is : new.live ≡ old.live = ap (λ (m : NodeParts). m.live) is ∙ mid_live in
+            let waiting_is : new.waiting ≡ old.waiting = ap (λ (m : NodeParts). m.waiting) is ∙ mid_waiting in
+            advance_done new target (whole base) (ap (λ (m : NodeParts). m.units) is ∙ takes.units)
             (ap (told_committed (record (plain_of old) { at = record old.at { committed = old.at.committed + 1 }; units = remove old.units.units next }) next) none
             ∙ ap (λ l. record (plain_of old) { at = record old.at { committed = old.at.committed + 1 }; units = remove old.units.units next; live = l }) (sym live_is)
             ∙ ap (λ w. record (plain_of old) { at = record old.at { committed = old.at.committed + 1 }; units = remove old.units.units next; live = new.live; waiting = w }) (sym waiting_is))
-            (alike_between _ _ _ _ (ap (λ (m : Node). m.locks.locks) is) mid_locks
+            (alike_between _ _ _ _ (ap (λ (m : NodeParts). m.locks.locks) is) mid_locks
             (ap (λ l. locks_of l (remove old.units.units next)) (sym live_is)))
-            (subst (λ (m : Node). Tabled (rows_at order next) m.live m.rows) (sym is)
+            (subst (λ (m : NodeParts). Tabled (rows_at order next) m.live m.rows) (sym is)
             (subst (λ l. Tabled (rows_at order next) l mid.rows) (sym mid_live) (rows_none none)))
-            (omega (arith, ap (λ (m : Node). m.rows.spare) is))
+            (omega (arith, ap (λ (m : NodeParts). m.rows.spare) is))
             (whole_certified base)
 
         done_some : (s : ℕ) (t : Live) → committer_of old.live next ≡ Some (s, t) → IsCommitted s next mid new
             → DoneOver order (λ n. advance_step order n) old target (answer.At next)
         done_some s t one is =
             let from_old : new ≡ record old { units = mid.units; live = new.live; waiting = new.waiting; locks = new.locks; rows = new.rows } =
-            is.rest ∙ ap (λ (m : Node). record m { live = new.live; waiting = new.waiting; locks = new.locks; rows = new.rows }) takes.rest in
+            is.rest ∙ ap (λ (m : NodeParts). record m { live = new.live; waiting = new.waiting; locks = new.locks; rows = new.rows }) takes.rest in
             let base : new ≡ record old { units = new.units; live = new.live; waiting = new.waiting; locks = new.locks; rows = new.rows } =
-            ap (λ (m : Node). record m { units = new.units }) from_old in
+            ap (λ (m : NodeParts). record m { units = new.units }) from_old in
             let live_is : new.live ≡ remove old.live s = is.live ∙ ap (λ l. remove l s) mid_live in
             let waiting_is : new.waiting ≡ insert old.waiting s (reply.Committed next) =
             is.waiting ∙ ap (λ w. insert w s (reply.Committed next)) mid_waiting in
-            advance_done new target (whole base) (ap (λ (m : Node). m.units) is.rest ∙ takes.units)
+            advance_done new target (whole base) (ap (λ (m : NodeParts). m.units) is.rest ∙ takes.units)
             (ap (told_committed (record (plain_of old) { at = record old.at { committed = old.at.committed + 1 }; units = remove old.units.units next }) next) one
             ∙ ap (λ l. record (plain_of old) { at = record old.at { committed = old.at.committed + 1 }; units = remove old.units.units next; live = l; waiting = insert old.waiting s (reply.Committed next) }) (sym live_is)
             ∙ ap (λ w. record (plain_of old) { at = record old.at { committed = old.at.committed + 1 }; units = remove old.units.units next; live = new.live; waiting = w }) (sym waiting_is))

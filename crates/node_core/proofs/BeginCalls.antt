@@ -29,7 +29,7 @@ use Rattle.node_meaning.specs.Units.{ops_at, named_rows}
 use Rattle.node_meaning.proofs.KillOrder.{kills-touching}
 use Rattle.node_meaning.proofs.LockLaws.{keys_of_unit, keys_at-session, keys_at-unit}
 use Rattle.node_laws.proofs.UnitMoves.{CanTakeBack}
-use Rattle.node_core.specs.declared.node.Node.{Node}
+use Rattle.node_core.specs.declared.node.NodeParts.{NodeParts}
 use Rattle.node_core.specs.Tabled.{Tabled}
 use Rattle.node_core.proofs.KeptFacts.{facts_started}
 use Rattle.node_core.specs.Stands.{AreWorked, IsWorked, DoneOver, Unchanged, plain_of}
@@ -102,7 +102,7 @@ module _ (units : FiniteMap nat_cmp ApplyUnit) where
       ∙ sends_beside vs (send_rollback n v)
 
 -- ---- the call
-module _ (order : List Event) (old mid killed : Node) (number : ℕ) (keys : Keys) (rows : ℕ) (aborted : List ℕ) (sent : List Message)
+module _ (order : List Event) (old mid killed : NodeParts) (number : ℕ) (keys : Keys) (rows : ℕ) (aborted : List ℕ) (sent : List Message)
     (can : CanStart order old number keys) (unchanged : Unchanged old mid) (same_units : mid.units ≡ old.units)
     (sends : fold send_rollback (plain_of old) aborted ≡ with_sent (plain_of old) sent)
     (victims : aborted ≡ touching_sessions old.locks.locks keys)
@@ -205,7 +205,7 @@ module _ (order : List Event) (old mid killed : Node) (number : ℕ) (keys : Key
     }
 
 -- the node's numbers are in range, also with a rollback of each live transaction
-pub can_take_back : (node : Node) → ProgressInRange node.at → len node.live ≤ 33 → node.at.serial < 2 ^ 63 → CanTakeBack (plain_of node)
+pub can_take_back : (node : NodeParts) → ProgressInRange node.at → len node.live ≤ 33 → node.at.serial < 2 ^ 63 → CanTakeBack (plain_of node)
 can_take_back node range few low = record {
   member = range.member;
   committed = range.committed;

@@ -22,7 +22,7 @@ use Rattle.node_meaning.specs.Steps.{told, told_verdict, session_of}
 use Rattle.node_meaning.proofs.EntryLaws.{entry_found, some_not_none}
 use Rattle.node_meaning.proofs.LockLaws.{locks_of-same, locks_of-remove}
 use Rattle.order_event.specs.declared.event.Event.{Event}
-use Rattle.node_core.specs.declared.node.Node.{Node}
+use Rattle.node_core.specs.declared.node.NodeParts.{NodeParts}
 use Rattle.node_core.specs.Tabled.{Tabled, made_by}
 use Rattle.node_core.specs.Stands.{Tables, Moves, AreWorked, plain_of}
 use Rattle.node_core.proofs.Tabling.{made-alike, put_at, ended_at, tabled-cleared, tabled-left}
@@ -88,7 +88,7 @@ nothing_found : (o : Option (ℕ × Live)) → option_map (λ e. e.0) o ≡ None
 nothing_found None is = refl
 nothing_found (Some e) is = absurd cc
 
-module _ (old : Node) (begin number : ℕ) (v : Verdict) where
+module _ (old : NodeParts) (begin number : ℕ) (v : Verdict) where
   abbrev pub tells : ModelNode → ModelNode
   tells n = told_verdict n number v (session_of n.live begin)
 
@@ -148,7 +148,7 @@ module _ (old : Node) (begin number : ℕ) (v : Verdict) where
             })
 
         -- it ends
-        pub tell_ends : (reply : Reply) (u : Live) → (Ends reply, u) ≡ judged_by number v t → (new : Node)
+        pub tell_ends : (reply : Reply) (u : Live) → (Ends reply, u) ≡ judged_by number v t → (new : NodeParts)
             → new ≡ record old { live = new.live; waiting = new.waiting; locks = new.locks; rows = new.rows }
             → new.live ≡ remove old.live session → new.waiting ≡ insert old.waiting session reply
             → new.locks.locks ≡ remove old.locks.locks (Session session) → new.rows.committed ≡ old.rows.committed
@@ -157,13 +157,13 @@ module _ (old : Node) (begin number : ℕ) (v : Verdict) where
           plain = sym (by_status true sent ∙ ap (told (plain_of old) session) (sym judged)
               ∙ sym (ap plain_of is_new ∙ ap (λ l. record (plain_of old) { live = l; waiting = new.waiting }) live
               ∙ ap (λ w. record (plain_of old) { live = remove old.live session; waiting = w }) waiting));
-          inbox = ap (λ (n : Node). n.inbox) is_new;
-          certification = ap (λ (n : Node). n.certification) is_new;
+          inbox = ap (λ (n : NodeParts). n.inbox) is_new;
+          certification = ap (λ (n : NodeParts). n.certification) is_new;
           tables = λ order tables. ended order tables;
         }
           where
             units_is : new.units ≡ old.units
-            units_is = ap (λ (n : Node). n.units) is_new
+            units_is = ap (λ (n : NodeParts). n.units) is_new
 
             ended : (order : List Event) → Tables order old → Tables order new
             ended order tables = record {
@@ -172,9 +172,9 @@ module _ (old : Node) (begin number : ℕ) (v : Verdict) where
                   (sym (locks_of-remove old.live old.units.units session)
                   ∙ ap (λ l. locks_of l old.units.units) (sym live) ∙ ap (λ u. locks_of new.live u.units) (sym units_is));
               rows = subst (λ l. Tabled (rows_at order new.at.committed) l new.rows) (sym live)
-                  (subst (λ (n : ℕ). Tabled (rows_at order n) (remove old.live session) new.rows) (sym (ap (λ (n : Node). n.at.committed) is_new))
+                  (subst (λ (n : ℕ). Tabled (rows_at order n) (remove old.live session) new.rows) (sym (ap (λ (n : NodeParts). n.at.committed) is_new))
                   (tabled-cleared (rows_at order old.at.committed) old.live old.rows new.rows tables.rows (remove old.live session) session None
                   (ended_at old.live session) (λ id. refl) committed changes));
               units = subst (λ u. AreWorked order u) (sym units_is) tables.units;
-              room = omega (arith, tables.room, spare, ap (λ (n : Node). n.units.room) is_new);
+              room = omega (arith, tables.room, spare, ap (λ (n : NodeParts). n.units.room) is_new);
             }

@@ -18,7 +18,7 @@ use Rattle.certification.specs.Certifies.{Certifies, CanCertify, IsNext}
 use Rattle.node_meaning.specs.Node.{ModelNode}
 use Rattle.node_meaning.specs.Steps.{told, told_own, told_verdict, told_event, session_of, verdict_of, certify_event, certify_step}
 use Rattle.node_meaning.proofs.EntryLaws.{less_from, some_not_none}
-use Rattle.node_core.specs.declared.node.Node.{Node}
+use Rattle.node_core.specs.declared.node.NodeParts.{NodeParts}
 use Rattle.node_core.specs.Certifying.{is_write_of, told_if}
 use Rattle.node_core.proofs.KeptFacts.{facts_certified}
 use Rattle.node_core.specs.Stands.{Stands, Tables, Moves, DoneOver, plain_of}
@@ -51,7 +51,7 @@ event_is n number v (event.View version members) = refl
 event_is n number v (event.Report member reported) = refl
 
 -- ---- the step
-module _ (order : List Event) (old : Node) (stands : Stands order old) where
+module _ (order : List Event) (old : NodeParts) (stands : Stands order old) where
   -- all that was taken is certified
   pub certify_nothing : old.at.certified ≡ old.at.taken → DoneOver order (λ n. certify_step order n) old old answer.Nothing
   unfolding certify_step
@@ -94,7 +94,7 @@ module _ (order : List Event) (old : Node) (stands : Stands order old) where
         ap (λ b. cond {A = Answer × ModelNode} b (answer.Nothing, plain_of old) (certify_event order (plain_of old) (slice_get order old.at.certified))) unequal
         ∙ ap (certify_event order (plain_of old)) there
 
-    module _ (e : Event) (here : Some e ≡ slice_get old.inbox 0) (became : Judged) (mid new : Node)
+    module _ (e : Event) (here : Some e ≡ slice_get old.inbox 0) (became : Judged) (mid new : NodeParts)
         (mid_is : mid ≡ record old {
           at = record old.at { certified = old.at.certified + 1 };
           inbox = mid.inbox;
@@ -120,7 +120,7 @@ module _ (order : List Event) (old : Node) (stands : Stands order old) where
       same =
           ap (λ m. (answer.Judged (old.at.certified + 1) became, m))
           (moves.plain
-          ∙ ap (λ (m : Node). told_if (is_write_of e old.at.member) (set_in e) (old.at.certified + 1) (verdict_of became) (plain_of m)) mid_is
+          ∙ ap (λ (m : NodeParts). told_if (is_write_of e old.at.member) (set_in e) (old.at.certified + 1) (verdict_of became) (plain_of m)) mid_is
           ∙ sym (event_is counted (old.at.certified + 1) (verdict_of became) e))
           ∙ ap answered next.judged
           ∙ sym (step_is e there)
@@ -129,7 +129,7 @@ module _ (order : List Event) (old : Node) (stands : Stands order old) where
       new_at =
           ap (λ (m : ModelNode). m.at) moves.plain
           ∙ if_at (is_write_of e old.at.member) (set_in e) (old.at.certified + 1) (verdict_of became) (plain_of mid)
-          ∙ ap (λ (m : Node). m.at) mid_is
+          ∙ ap (λ (m : NodeParts). m.at) mid_is
 
       certified_is : new.at.certified ≡ old.at.certified + 1
       certified_is = ap (λ (a : _). a.certified) new_at

@@ -23,7 +23,7 @@ use Rattle.node_meaning.specs.Node.{ModelNode, rows_at, locks_of, end_live, send
 use Rattle.node_meaning.specs.Client.{begin_call, commit_call, send_commit, rollback_call}
 use Rattle.node_meaning.specs.Facts.{Facts, ProgressInRange}
 use Rattle.node_meaning.proofs.LockLaws.{lock_keys, lock_of_live, locks_of-remove, locks_of-replace, locks_of-same}
-use Rattle.node_core.specs.declared.node.Node.{Node}
+use Rattle.node_core.specs.declared.node.NodeParts.{NodeParts}
 use Rattle.node_core.specs.Client.{sends_commit, sends_rollback}
 use Rattle.node_core.specs.Sending.{node_sent, node_sent_any, with_commit}
 use Rattle.node_core.specs.Tabled.{Tabled, made_by}
@@ -32,7 +32,7 @@ use Rattle.node_core.specs.Stands.{Stands, Tables, AreWorked, Unchanged, Moves, 
 use Rattle.node_core.proofs.Tabling.{same_tabled, made-alike, put_at, ended_at, tabled-cleared, tabled-left}
 
 -- ---- what a node stands for goes along where its parts do
-pub stands_by : (order : List Event) (old new : Node) → Stands order old → new.at.committed ≡ old.at.committed
+pub stands_by : (order : List Event) (old new : NodeParts) → Stands order old → new.at.committed ≡ old.at.committed
     → new.at.certified ≡ old.at.certified → new.at.taken ≡ old.at.taken → new.inbox ≡ old.inbox
     → new.certification ≡ old.certification → Tables order new → Facts order (plain_of new) → Stands order new
 stands_by order old new st committed certified taken inbox same tables facts = record {
@@ -45,7 +45,7 @@ stands_by order old new st committed certified taken inbox same tables facts = r
 }
 
 -- more room changes nothing that it stands for
-pub unchanged_stands : (order : List Event) (old new : Node) → Unchanged old new → Stands order old → Stands order new
+pub unchanged_stands : (order : List Event) (old new : NodeParts) → Unchanged old new → Stands order old → Stands order new
 unchanged_stands order old new same st =
     let units : new.units.units ≡ old.units.units = ap (λ (n : ModelNode). n.units) same.plain in
     let had = st.tables.room in
@@ -81,7 +81,7 @@ where_err (Ok x) h = tt
 where_err (Err e) h = h
 
 -- a node that is the same
-pub same_unchanged : (old new : Node) → new ≡ old → Unchanged old new
+pub same_unchanged : (old new : NodeParts) → new ≡ old → Unchanged old new
 same_unchanged old new same = subst (Unchanged old) (sym same) (record {
   plain = refl;
   inbox = refl;
@@ -103,7 +103,7 @@ running_status status.KilledSent h = cc
 running_status (status.Replaying n) h = cc
 
 -- ---- a transaction ends
-pub moves_ended : (old new : Node) (s : ℕ) → plain_of new ≡ end_live (plain_of old) s → new.inbox ≡ old.inbox
+pub moves_ended : (old new : NodeParts) (s : ℕ) → plain_of new ≡ end_live (plain_of old) s → new.inbox ≡ old.inbox
     → new.certification ≡ old.certification → new.units ≡ old.units → new.locks.locks ≡ remove old.locks.locks (Session s)
     → new.rows.committed ≡ old.rows.committed → new.rows.changes ≡ without old.rows.changes s → old.rows.spare ≤ new.rows.spare
     → Moves (λ n. end_live n s) old new
@@ -125,7 +125,7 @@ moves_ended old new s plain inbox same units locks committed changes spare = rec
       };
 }
 
-pub ended_stands : (order : List Event) (old new : Node) (s : ℕ) → Moves (λ n. end_live n s) old new → Stands order old
+pub ended_stands : (order : List Event) (old new : NodeParts) (s : ℕ) → Moves (λ n. end_live n s) old new → Stands order old
     → Stands order new
 ended_stands order old new s moves st =
     stands_by order old new st (ap (λ (n : ModelNode). n.at.committed) moves.plain)
@@ -134,19 +134,19 @@ ended_stands order old new s moves st =
     (facts_ended order old new st s moves.plain)
 
 -- what a node sends changes none of its tables
-pub sent_any_tables : (order : List Event) (node : Node) (o : Option WriteSet) → Tables order node → Tables order (node_sent_any node o)
+pub sent_any_tables : (order : List Event) (node : NodeParts) (o : Option WriteSet) → Tables order node → Tables order (node_sent_any node o)
 sent_any_tables order node None t = t
 sent_any_tables order node (Some w) t = record { locks = t.locks; rows = t.rows; units = t.units; room = t.room }
 
-sent_any_plain : (node : Node) (o : Option WriteSet) → plain_of (node_sent_any node o) ≡ send_any (plain_of node) o
+sent_any_plain : (node : NodeParts) (o : Option WriteSet) → plain_of (node_sent_any node o) ≡ send_any (plain_of node) o
 sent_any_plain node None = refl
 sent_any_plain node (Some w) = refl
 
-sent_any_inbox : (node : Node) (o : Option WriteSet) → (node_sent_any node o).inbox ≡ node.inbox
+sent_any_inbox : (node : NodeParts) (o : Option WriteSet) → (node_sent_any node o).inbox ≡ node.inbox
 sent_any_inbox node None = refl
 sent_any_inbox node (Some w) = refl
 
-sent_any_certification : (node : Node) (o : Option WriteSet) → (node_sent_any node o).certification ≡ node.certification
+sent_any_certification : (node : NodeParts) (o : Option WriteSet) → (node_sent_any node o).certification ≡ node.certification
 sent_any_certification node None = refl
 sent_any_certification node (Some w) = refl
 
@@ -156,7 +156,7 @@ sent_any_at n None = (refl, refl, refl)
 sent_any_at n (Some w) = (refl, refl, refl)
 
 -- the rollback that is due is sent, and the transaction ends
-pub rolled_back : (order : List Event) (old mid new : Node) (s : ℕ) (t : Live) (due : Option WriteSet) → get old.live s ≡ Some t
+pub rolled_back : (order : List Event) (old mid new : NodeParts) (s : ℕ) (t : Live) (due : Option WriteSet) → get old.live s ≡ Some t
     → ProgressInRange old.at → due ≡ rollback_due t old.at.serial old.at.committed → mid ≡ node_sent_any old due
     → Moves (λ n. end_live n s) mid new → Stands order old
     → DoneOver order (λ n. rollback_call n s (get n.live s)) old new reply.RolledBack
@@ -164,14 +164,14 @@ rolled_back order old mid new s t due is range due_is mid_is moves st =
     let w = rollback_due t old.at.serial old.at.committed in
     let sent : mid ≡ node_sent_any old w = mid_is ∙ ap (node_sent_any old) due_is in
     let plain : plain_of new ≡ end_live (taken_back (plain_of old) t) s =
-    moves.plain ∙ ap (λ (n : Node). end_live (plain_of n) s) sent ∙ ap (λ n. end_live n s) (sent_any_plain old w) in
+    moves.plain ∙ ap (λ (n : NodeParts). end_live (plain_of n) s) sent ∙ ap (λ n. end_live n s) (sent_any_plain old w) in
     let at = sent_any_at (plain_of old) w in
     record {
       same = ap (λ n. (reply.RolledBack, n)) plain ∙ ap (rollback_call (plain_of old) s) (sym is);
       stands = stands_by order old new st (ap (λ (n : ModelNode). n.at.committed) plain ∙ at.0)
           (ap (λ (n : ModelNode). n.at.certified) plain ∙ at.1) (ap (λ (n : ModelNode). n.at.taken) plain ∙ at.2)
-          (moves.inbox ∙ ap (λ (n : Node). n.inbox) sent ∙ sent_any_inbox old w)
-          (moves.certification ∙ ap (λ (n : Node). n.certification) sent ∙ sent_any_certification old w)
+          (moves.inbox ∙ ap (λ (n : NodeParts). n.inbox) sent ∙ sent_any_inbox old w)
+          (moves.certification ∙ ap (λ (n : NodeParts). n.certification) sent ∙ sent_any_certification old w)
           (moves.tables order (subst (Tables order) (sym sent) (sent_any_tables order old w st.tables)))
           (facts_rolled_back order old new st s t is range plain);
     }
@@ -188,7 +188,7 @@ sends_back o t due serial last_seen is due_is some =
     ap sends_rollback is
     ∙ back_due (is_uncommitted t.status) (nat_lt 0 t.sent) (rollback_of t serial last_seen) (ap is_some (sym due_is) ∙ some)
 
-pub committed_nothing : (order : List Event) (old new : Node) (s : ℕ) (t : Live) → get old.live s ≡ Some t
+pub committed_nothing : (order : List Event) (old new : NodeParts) (s : ℕ) (t : Live) → get old.live s ≡ Some t
     → (length t.ops == 0 && t.sent == 0) ≡ true → Moves (λ n. end_live n s) old new → Stands order old
     → DoneOver order (λ n. commit_call n s (get n.live s)) old new (reply.Committed 0)
 committed_nothing order old new s t is none moves st = record {
@@ -207,7 +207,7 @@ is_free (Some t) none = absurd (true≢false none)
 no_lock : lock_keys true empty ≡ None
 no_lock = ap (λ n. cond (n == 0) None (Some empty)) (len-empty parts_cmp Kind)
 
-pub began : (order : List Event) (old new : Node) (s unit : ℕ) → get old.live s ≡ None
+pub began : (order : List Event) (old new : NodeParts) (s unit : ℕ) → get old.live s ≡ None
     → plain_of new ≡ (begin_call (plain_of old) s unit None).1 → new.inbox ≡ old.inbox → new.certification ≡ old.certification
     → new.units ≡ old.units → new.locks ≡ old.locks → new.rows ≡ old.rows → Stands order old
     → DoneOver order (λ n. begin_call n s unit (get n.live s)) old new reply.Done
@@ -236,17 +236,17 @@ began order old new s unit free plain inbox same units locks rows st =
 
 -- ---- a commit is sent
 -- the node once the commit of the session's transaction is sent
-abbrev pub after_commit : Node → ℕ → Live → Node
+abbrev pub after_commit : NodeParts → ℕ → Live → NodeParts
 after_commit old s t = record (node_sent old (commit_of t old.at.serial old.at.committed)) {
   live = insert old.live s (with_status t status.CommitSent);
 }
 
-pub commit_by_none : (node : Node) (s : ℕ) (taken : FiniteMap nat_cmp Live) → None ≡ get node.live s → taken ≡ remove node.live s
+pub commit_by_none : (node : NodeParts) (s : ℕ) (taken : FiniteMap nat_cmp Live) → None ≡ get node.live s → taken ≡ remove node.live s
     → record node { live = taken } ≡ record node { live = with_commit node.live s (get node.live s) }
 commit_by_none node s taken none left =
     ap (λ l. record node { live = l }) (left ∙ remove-absent numbers node.live s (sym none) ∙ ap (with_commit node.live s) none)
 
-pub commit_put : (node : Node) (s : ℕ) (trx new : Live) (taken live : FiniteMap nat_cmp Live) → Some trx ≡ get node.live s
+pub commit_put : (node : NodeParts) (s : ℕ) (trx new : Live) (taken live : FiniteMap nat_cmp Live) → Some trx ≡ get node.live s
     → taken ≡ remove node.live s → new ≡ with_status trx status.CommitSent → live ≡ insert taken s new
     → record node { live = live } ≡ record node { live = with_commit node.live s (get node.live s) }
 commit_put node s trx new taken live mine left new_is live_is =
@@ -254,40 +254,40 @@ commit_put node s trx new taken live mine left new_is live_is =
     (live_is ∙ ap (λ l. insert l s new) left ∙ insert-remove numbers node.live s new ∙ ap (insert node.live s) new_is
     ∙ ap (with_commit node.live s) mine)
 
-pub sent_node : (old mid : Node) (s : ℕ) (t : Live) (w : WriteSet) → get old.live s ≡ Some t → mid ≡ node_sent old w
+pub sent_node : (old mid : NodeParts) (s : ℕ) (t : Live) (w : WriteSet) → get old.live s ≡ Some t → mid ≡ node_sent old w
     → w ≡ commit_of t old.at.serial old.at.committed
     → record mid { live = with_commit mid.live s (get mid.live s) } ≡ after_commit old s t
 sent_node old mid s t w is mid_is w_is =
-    ap (λ (n : Node). record n { live = with_commit n.live s (get n.live s) }) (mid_is ∙ ap (node_sent old) w_is)
+    ap (λ (n : NodeParts). record n { live = with_commit n.live s (get n.live s) }) (mid_is ∙ ap (node_sent old) w_is)
     ∙ ap (λ o. record (node_sent old (commit_of t old.at.serial old.at.committed)) { live = with_commit old.live s o }) is
 
-pub commit_sent : (order : List Event) (old new : Node) (s : ℕ) (t : Live) → get old.live s ≡ Some t → not (is_running t.status) ≡ false
+pub commit_sent : (order : List Event) (old new : NodeParts) (s : ℕ) (t : Live) → get old.live s ≡ Some t → not (is_running t.status) ≡ false
     → (length t.ops == 0 && t.sent == 0) ≡ false → ProgressInRange old.at → new ≡ after_commit old s t → Stands order old
     → DoneOver order (λ n. commit_call n s (get n.live s)) old new reply.Pending
 commit_sent order old new s t is running some range new_is st =
     let u = with_status t status.CommitSent in
     let locked = running_locks t.status running in
     let had = st.tables.room in
-    let same_room : new.units.room ≡ old.units.room = ap (λ (n : Node). n.units.room) new_is in
-    let same_spare : new.rows.spare ≡ old.rows.spare = ap (λ (n : Node). n.rows.spare) new_is in
+    let same_room : new.units.room ≡ old.units.room = ap (λ (n : NodeParts). n.units.room) new_is in
+    let same_spare : new.rows.spare ≡ old.rows.spare = ap (λ (n : NodeParts). n.rows.spare) new_is in
     let done : (reply.Pending, plain_of new) ≡ commit_call (plain_of old) s (Some t) =
     ap (λ n. (reply.Pending, plain_of n)) new_is
     ∙ ap (λ b. cond {A = Reply × ModelNode} b (reply.Committed 0, end_live (plain_of old) s) (reply.Pending, send_commit (plain_of old) s t)) (sym some) in
     record {
       same = done ∙ ap (commit_call (plain_of old) s) (sym is);
-      stands = stands_by order old new st (ap (λ (n : Node). n.at.committed) new_is)
-          (ap (λ (n : Node). n.at.certified) new_is) (ap (λ (n : Node). n.at.taken) new_is)
-          (ap (λ (n : Node). n.inbox) new_is) (ap (λ (n : Node). n.certification) new_is)
+      stands = stands_by order old new st (ap (λ (n : NodeParts). n.at.committed) new_is)
+          (ap (λ (n : NodeParts). n.at.certified) new_is) (ap (λ (n : NodeParts). n.at.taken) new_is)
+          (ap (λ (n : NodeParts). n.inbox) new_is) (ap (λ (n : NodeParts). n.certification) new_is)
           (record {
-            locks = alike_between _ _ _ _ (ap (λ (n : Node). n.locks.locks) new_is) st.tables.locks
+            locks = alike_between _ _ _ _ (ap (λ (n : NodeParts). n.locks.locks) new_is) st.tables.locks
                 (sym (locks_of-same old.live old.units.units s t u is (sym locked) refl)
-                ∙ ap (λ (n : Node). locks_of n.live n.units.units) (sym new_is));
-            rows = subst (λ (n : Node). Tabled (rows_at order n.at.committed) n.live new.rows) (sym new_is)
+                ∙ ap (λ (n : NodeParts). locks_of n.live n.units.units) (sym new_is));
+            rows = subst (λ (n : NodeParts). Tabled (rows_at order n.at.committed) n.live new.rows) (sym new_is)
                 (tabled-left (rows_at order old.at.committed) old.live old.rows new.rows st.tables.rows (insert old.live s u) s (Some u)
                 (put_at old.live s u) (λ id. made-alike (rows_at order old.at.committed) id u t (sym locked) refl
-                ∙ ap (made_by (rows_at order old.at.committed) id) (sym is)) (ap (λ (n : Node). n.rows.committed) new_is)
-                (ap (λ (n : Node). n.rows.changes) new_is));
-            units = subst (AreWorked order) (sym (ap (λ (n : Node). n.units) new_is)) st.tables.units;
+                ∙ ap (made_by (rows_at order old.at.committed) id) (sym is)) (ap (λ (n : NodeParts). n.rows.committed) new_is)
+                (ap (λ (n : NodeParts). n.rows.changes) new_is));
+            units = subst (AreWorked order) (sym (ap (λ (n : NodeParts). n.units) new_is)) st.tables.units;
             room = omega (arith, had, same_room, same_spare);
           })
           (facts_sent order old new st s t is running range reply.Pending done);

@@ -17,7 +17,7 @@ use Rattle.node_meaning.specs.Steps.{finish_stage, finish_unit, finish_step}
 use Rattle.node_meaning.specs.Units.{unit_task}
 use Rattle.node_meaning.proofs.LockLaws.{locks_of-same_unit}
 use Rattle.node_parts.specs.Units.{Work, UnitTable, finished, finished_unit, finished_work, is_started, is_started_stage}
-use Rattle.node_core.specs.declared.node.Node.{Node}
+use Rattle.node_core.specs.declared.node.NodeParts.{NodeParts}
 use Rattle.node_core.proofs.KeptFacts.{facts_finished}
 use Rattle.node_core.specs.Stands.{Stands, Tables, AreWorked, IsWorked, DoneOver, plain_of}
 
@@ -91,9 +91,9 @@ module _ (order : List Event) (table : UnitTable) (done : ModelTask) (worked : A
       (sym old.1) (put_worked table.room))
 
 -- ---- the call
-module _ (order : List Event) (node : Node) (done : ModelTask) (stands : Stands order node)
+module _ (order : List Event) (node : NodeParts) (done : ModelTask) (stands : Stands order node)
     (task : done ≡ unit_task order done.number) (started : is_started (get node.units.units done.number) ≡ true) where
-  abbrev after : Node
+  abbrev after : NodeParts
   after = record node { units = finished node.units done }
 
   tables : (u : ApplyUnit) → get node.units.units done.number ≡ Some u → Tables order after
@@ -121,7 +121,7 @@ module _ (order : List Event) (node : Node) (done : ModelTask) (stands : Stands 
         };
       }
 
-pub finish_does : (order : List Event) (node : Node) (done : ModelTask) (units : UnitTable) (number : ℕ) (started : Bool) → Stands order node
+pub finish_does : (order : List Event) (node : NodeParts) (done : ModelTask) (units : UnitTable) (number : ℕ) (started : Bool) → Stands order node
     → (IsTrue (is_started (get node.units.units done.number)) → done ≡ unit_task order done.number)
     → number ≡ done.number → started ≡ true → started ≡ is_started (get node.units.units number)
     → units ≡ finished node.units done

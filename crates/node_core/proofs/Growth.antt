@@ -12,7 +12,7 @@ use Rattle.node_meaning.specs.Node.{ApplyUnit, rows_at}
 use Rattle.node_meaning.specs.Units.{ops_at, rows_before, unit_task, images_of, named_rows}
 use Rattle.node_meaning.proofs.GrowFacts.{facts_grow, ops_at-append}
 use Rattle.node_parts.specs.Units.{Work}
-use Rattle.node_core.specs.declared.node.Node.{Node}
+use Rattle.node_core.specs.declared.node.NodeParts.{NodeParts}
 use Rattle.node_core.specs.Tabled.{Tabled}
 use Rattle.node_core.specs.Stands.{Stands, AreWorked, IsWorked, HasTask}
 
@@ -42,7 +42,7 @@ module _ (order more : List Event) where
     task = task-append number work u.stage fits h.task;
   }
 
-  module _ (node : Node) (st : Stands order node) where
+  module _ (node : NodeParts) (st : Stands order node) where
     certified_fits : node.at.certified ≤ length order
     certified_fits = omega (arith, st.facts.in_order.certified_fits, st.facts.in_order.taken_fits)
 
@@ -58,7 +58,7 @@ module _ (order more : List Event) where
     }
 
   -- the node stands for the longer order
-  pub stands_grow : (node : Node) → Stands order node → Stands (order ++ more) node
+  pub stands_grow : (node : NodeParts) → Stands order node → Stands (order ++ more) node
   stands_grow node st = record {
     inbox = st.inbox ∙ ap (drop node.at.certified) (sym (take-append-le node.at.taken order more st.facts.in_order.taken_fits));
     certification = certifies_grow order node.at.committed node.at.certified node.certification st.certification more;

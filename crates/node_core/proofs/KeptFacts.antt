@@ -14,11 +14,11 @@ use Rattle.node_meaning.specs.Facts.{Facts, ProgressInRange}
 use Rattle.node_meaning.proofs.ClientFacts.{StatementFits}
 use Rattle.node_laws.proofs.UnitMoves.{CanTakeBack}
 use Rattle.node_laws.proofs.StepFacts.{take_keeps, certify_keeps, started_keeps, finish_keeps, advance_keeps, ended_keeps, begin_keeps, statement_keeps, commit_keeps, rollback_keeps, told_keeps}
-use Rattle.node_core.specs.declared.node.Node.{Node}
+use Rattle.node_core.specs.declared.node.NodeParts.{NodeParts}
 use Rattle.node_core.specs.Stands.{Stands, plain_of}
 use Rattle.node_core.specs.Starting.{CanStart, unit_started}
 
-module _ (order : List Event) (old new : Node) (st : Stands order old) where
+module _ (order : List Event) (old new : NodeParts) (st : Stands order old) where
   after : {A : Type 0} (f : ModelNode → A × ModelNode) (answer : A)
       → (answer, plain_of new) ≡ f (plain_of old)
       → (Facts order (plain_of old) → Facts order (f (plain_of old)).1) → Facts order (plain_of new)

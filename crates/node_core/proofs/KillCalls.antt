@@ -21,7 +21,7 @@ use Rattle.node_parts.proofs.MapLaws.{removed_absent}
 use Rattle.node_meaning.specs.Node.{ModelNode, locks_of}
 use Rattle.node_meaning.specs.Steps.{told, ended_session, end_killed}
 use Rattle.node_meaning.proofs.LockLaws.{lock_keys, locks_of-remove, locks_of-unlocked}
-use Rattle.node_core.specs.declared.node.Node.{Node}
+use Rattle.node_core.specs.declared.node.NodeParts.{NodeParts}
 use Rattle.node_core.specs.Tabled.{Tabled, changes_row}
 use Rattle.node_core.specs.Stands.{plain_of}
 use Rattle.node_core.specs.Starting.{Aborts}
@@ -47,7 +47,7 @@ killed_unlocked t u status.KilledSent n at is = ap (λ (l : Live). has_locks l.s
 killed_unlocked t u (status.Replaying m) n at is = ap (λ (l : Live). has_locks l.status) (trx_of Lives Lives u _ is) ∙ ap has_locks at
 
 -- ---- the three cases
-pub kill_none : (old : Node) (live : FiniteMap nat_cmp Live) (number s : ℕ) → get old.live s ≡ None → live ≡ remove old.live s
+pub kill_none : (old : NodeParts) (live : FiniteMap nat_cmp Live) (number s : ℕ) → get old.live s ≡ None → live ≡ remove old.live s
     → Aborts (λ n. end_killed number n s) old (record old { live = live })
 kill_none old live number s none taken =
     let still : live ≡ old.live = taken ∙ removed_absent old.live s none in
@@ -64,7 +64,7 @@ kill_none old live number s none taken =
       rows = λ rows tabled. subst (λ (m : FiniteMap nat_cmp Live). Tabled rows m old.rows) (sym still) tabled;
     }
 
-module _ (old : Node) (number s : ℕ) (t : Live) (locks : LockState) (rows : RowTable) (there : get old.live s ≡ Some t)
+module _ (old : NodeParts) (number s : ℕ) (t : Live) (locks : LockState) (rows : RowTable) (there : get old.live s ≡ Some t)
     (released : locks.locks ≡ remove old.locks.locks (Session s)) (spare : old.locks.spare ≤ locks.spare)
     (committed : rows.committed ≡ old.rows.committed) (changes : rows.changes ≡ without old.rows.changes s)
     (room : old.rows.spare ≤ rows.spare) where
@@ -123,7 +123,7 @@ module _ (old : Node) (number s : ℕ) (t : Live) (locks : LockState) (rows : Ro
       }
 
 -- ---- one after another
-pub no_aborts : (node : Node) → Aborts (λ n. n) node node
+pub no_aborts : (node : NodeParts) → Aborts (λ n. n) node node
 no_aborts node = record {
   plain = refl;
   at = refl;
@@ -136,7 +136,7 @@ no_aborts node = record {
   rows = λ rows tabled. tabled;
 }
 
-pub more_aborts : (f g : ModelNode → ModelNode) (a b c : Node) → Aborts f a b → Aborts g b c → Aborts (λ n. g (f n)) a c
+pub more_aborts : (f g : ModelNode → ModelNode) (a b c : NodeParts) → Aborts f a b → Aborts g b c → Aborts (λ n. g (f n)) a c
 more_aborts f g a b c one two = record {
   plain = two.plain ∙ ap g one.plain;
   at = two.at ∙ one.at;
@@ -150,7 +150,7 @@ more_aborts f g a b c one two = record {
 }
 
 -- one more of the sessions
-pub kills_more : (number : ℕ) (sessions : List ℕ) (i d : ℕ) (a b c : Node) → i < length sessions
+pub kills_more : (number : ℕ) (sessions : List ℕ) (i d : ℕ) (a b c : NodeParts) → i < length sessions
     → Aborts (λ n. fold (end_killed number) n (take i sessions)) a b
     → Aborts (λ n. end_killed number n (get_or sessions i d)) b c
     → Aborts (λ n. fold (end_killed number) n (take (i + 1) sessions)) a c

@@ -5,6 +5,7 @@ pub mod CertifyStep
 pub mod ClientCalls
 pub mod FinishCalls
 pub mod Growth
+pub mod Hearing
 pub mod KeptFacts
 pub mod ImageCalls
 pub mod KillCalls

@@ -17,7 +17,7 @@ use Rattle.node_meaning.proofs.LockLaws.{same_locks, get-locks_of-session, get-l
 use Rattle.certification.specs.Certifies.{Certifies}
 use Rattle.node_parts.specs.Queue.{nothing_sent}
 use Rattle.node_parts.specs.Units.{no_units}
-use Rattle.node_core.specs.declared.node.Node.{Node}
+use Rattle.node_core.specs.declared.node.NodeParts.{NodeParts}
 use Rattle.node_core.specs.Tabled.{made_by, shown_of}
 use Rattle.node_core.specs.Stands.{Stands, plain_of}
 
@@ -34,7 +34,7 @@ no_rows : (order : List Event) → rows_at order 0 ≡ empty
 unfolding state_at no_events
 no_rows order = refl
 
-module _ (order : List Event) (node : Node) (id : List ℕ) (member : ℕ) (at_is : node.at ≡ (start_node id member).at) (id_is : node.id ≡ id)
+module _ (order : List Event) (node : NodeParts) (id : List ℕ) (member : ℕ) (at_is : node.at ≡ (start_node id member).at) (id_is : node.id ≡ id)
     (live : node.live ≡ empty) (waiting : node.waiting ≡ empty) (queue : node.queue ≡ nothing_sent) (units : node.units ≡ no_units) where
   plain_is : plain_of node ≡ start_node id member
   plain_is = rw (at_is, id_is, live, waiting, queue, units) refl

@@ -15,12 +15,12 @@ use Rattle.node_meaning.specs.Units.{ops_at, unit_task, images_of}
 use Rattle.node_meaning.specs.Steps.{is_started, advance_step}
 use Rattle.node_meaning.proofs.UnitLaws.{task-unit}
 use Rattle.node_laws.proofs.StartedUnits as units
-use Rattle.node_core.specs.declared.node.Node.{Node}
+use Rattle.node_core.specs.declared.node.NodeParts.{NodeParts}
 use Rattle.node_core.specs.Stands.{Stands, plain_of}
 pub use Rattle.node_core.proofs.ClientCalls.{unchanged_stands}
 pub use Rattle.node_core.proofs.Growth.{stands_grow}
 
-module _ (order other : List Event) (node : Node) (st : Stands order node) (su : Stands other node) (number : ℕ) where
+module _ (order other : List Event) (node : NodeParts) (st : Stands order node) (su : Stands other node) (number : ℕ) where
   same_ops : (u : ApplyUnit) → get node.units.units number ≡ Some u → ops_at order number ≡ ops_at other number
   same_ops u there =
       let one = st.facts.units number u there in
@@ -47,6 +47,6 @@ module _ (order other : List Event) (node : Node) (st : Stands order node) (su :
   started_task is = by_unit (get node.units.units number) refl is
 
 -- committing takes away no started unit
-pub advance_started : (order : List Event) (node : Node) → Stands order node → (k : ℕ)
+pub advance_started : (order : List Event) (node : NodeParts) → Stands order node → (k : ℕ)
     → is_started (get (advance_step order (plain_of node)).1.units k) ≡ is_started (get node.units.units k)
 advance_started order node st k = units.advance_started order (plain_of node) st.facts k

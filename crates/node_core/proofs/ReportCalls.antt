@@ -12,7 +12,7 @@ use Rattle.node_meaning.specs.Node.{ModelNode, is_left, is_joining}
 use Rattle.node_meaning.specs.Facts.{Facts}
 use Rattle.node_meaning.specs.Steps.{put_report, report_step}
 use Rattle.node_laws.proofs.StepFacts.{report_keeps}
-use Rattle.node_core.specs.declared.node.Node.{Node}
+use Rattle.node_core.specs.declared.node.NodeParts.{NodeParts}
 use Rattle.node_core.specs.Stands.{Stands, DoneOver, plain_of}
 
 -- what it answers, by the phase and whether the node has still to commit its view
@@ -27,10 +27,10 @@ unfolding report_step
 reported_is n f behind at lags = λ i. reported_by n (sym at i) (sym lags i)
 
 -- the node once its report waits
-abbrev pub after_report : Node → Node
+abbrev pub after_report : NodeParts → NodeParts
 after_report node = record node { queue = queued node.queue (message.Report node.at.committed) }
 
-module _ (order : List Event) (old : Node) (st : Stands order old) where
+module _ (order : List Event) (old : NodeParts) (st : Stands order old) where
   pub report_left : old.at.phase ≡ phase.Left → DoneOver order (λ n. report_step n) old old answer.Disconnected
   report_left at = record { same = reported_is (plain_of old) phase.Left _ at refl; stands = st }
 
@@ -45,12 +45,12 @@ module _ (order : List Event) (old : Node) (st : Stands order old) where
       stands = st;
     }
 
-    pub report_sent : old.at.view ≤ old.at.committed → (new : Node) → new ≡ after_report old
+    pub report_sent : old.at.view ≤ old.at.committed → (new : NodeParts) → new ≡ after_report old
         → DoneOver order (λ n. report_step n) old new (answer.Reported old.at.committed)
     report_sent synced new is =
         let same : (answer.Reported old.at.committed, plain_of (after_report old)) ≡ report_step (plain_of old) =
         reported_is (plain_of old) phase.Connected false at (le-ltb old.at.committed old.at.view synced) in
-        subst (λ (node : Node). DoneOver order (λ n. report_step n) old node (answer.Reported old.at.committed)) (sym is)
+        subst (λ (node : NodeParts). DoneOver order (λ n. report_step n) old node (answer.Reported old.at.committed)) (sym is)
         (record {
           same = same;
           stands = record {

@@ -4,7 +4,7 @@ use Rattle.std.specs.Prelude.{slice_get}
 use Rattle.std.proofs.lemmas.List.{drop-append-le}
 use Rattle.std.proofs.lemmas.Option.{same_Some}
 use Rattle.order_event.specs.declared.event.Event.{Event}
-use Rattle.node_core.specs.declared.node.Node.{Node}
+use Rattle.node_core.specs.declared.node.NodeParts.{NodeParts}
 use Rattle.node_core.specs.Stands.{Unchanged}
 
 -- ---- the inbox
@@ -50,7 +50,7 @@ pub dropped_one : (order : List Event) (certified taken : ℕ)
 dropped_one order certified taken = drop_next (take taken order) certified ∙ ap (λ k. drop k (take taken order)) (sym (add-one certified))
 
 -- a node that is as it was
-pub unchanged : (old new : Node) → new ≡ old → Unchanged old new
+pub unchanged : (old new : NodeParts) → new ≡ old → Unchanged old new
 unchanged old new same = subst (Unchanged old) (sym same) (record {
   plain = refl;
   inbox = refl;

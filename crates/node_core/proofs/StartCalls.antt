@@ -18,7 +18,7 @@ use Rattle.node_meaning.specs.Steps.{is_local, touching_before, start_after, sta
 use Rattle.node_meaning.specs.Units.{ops_at, images_of, unit_task}
 use Rattle.node_meaning.proofs.PassedLaws.{passed-committed, from_passed, none_touching}
 use Rattle.node_meaning.proofs.UnitLaws.{task-clear}
-use Rattle.node_core.specs.declared.node.Node.{Node}
+use Rattle.node_core.specs.declared.node.NodeParts.{NodeParts}
 use Rattle.node_core.specs.Stands.{Stands, DoneOver, plain_of}
 use Rattle.node_core.specs.declared.answers.Started.{Started}
 use Rattle.node_core.specs.declared.answers.Started.TheVariants as refused
@@ -32,7 +32,7 @@ on_err (Ok a) holds = tt
 on_err (Err b) holds = holds
 
 -- ---- the task
-pub task_given : (order : List Event) (node : Node) (number : ℕ) (keys : Keys) (ops : List Op) (images : List Image) (made : ModelTask)
+pub task_given : (order : List Event) (node : NodeParts) (number : ℕ) (keys : Keys) (ops : List Op) (images : List Image) (made : ModelTask)
     → CanStart order node number keys → ops ≡ unwrap_or (changes_with number node.certification) [] → images ≡ images_of ops node.rows.committed
     → made ≡ task number ops images → made ≡ unit_task order number
 task_given order node number keys ops images made can changes rows is =
@@ -45,25 +45,25 @@ task_given order node number keys ops images made can changes rows is =
     ∙ sym (task-clear order node.at.committed number (record { number = can.label; trx = can.trx; keys = keys })
     (omega (arith, can.within, facts.certified_fits, facts.taken_fits)) can.above can.is_commit can.clear)
 
-pub ops_given : (order : List Event) (node : Node) (number : ℕ) (keys : Keys) (ops : List Op)
+pub ops_given : (order : List Event) (node : NodeParts) (number : ℕ) (keys : Keys) (ops : List Op)
     → CanStart order node number keys → ops ≡ unwrap_or (changes_with number node.certification) [] → ops ≡ ops_at order number
 ops_given order node number keys ops can changes =
     changes ∙ ap (λ (o : Option (List Op)). unwrap_or o []) (changes-is order node.at.committed node.at.certified node.certification can.stands.certification number can.above can.within (ap is_some can.is_commit))
 
 -- the node stands as it did
-stays : (order : List Event) (node : Node) (number : ℕ) (r : Started) → Stands order node
+stays : (order : List Event) (node : NodeParts) (number : ℕ) (r : Started) → Stands order node
     → (started_answer number r, plain_of node) ≡ start_step order (plain_of node) number
     → is_start (started_answer number r) ≡ false → GivesTask order number r → IsRefused order node number r
 stays order node number r stands same idle task = record { done = record { same = same; stands = stands }; idle = idle; task = task }
 
 -- whether the unit starts, by the answer
-starts_not : (order : List Event) (node : Node) (number : ℕ) (r : Started) → IsRefused order node number r → false ≡ starts order (plain_of node) number
+starts_not : (order : List Event) (node : NodeParts) (number : ℕ) (r : Started) → IsRefused order node number r → false ≡ starts order (plain_of node) number
 starts_not order node number r stays = sym stays.idle ∙ ap (λ (p : Answer × ModelNode). is_start p.0) stays.done.same
 
-starts_now : (order : List Event) (node : Node) (number : ℕ) (keys : Keys) → IsStartable order node number keys → starts order (plain_of node) number ≡ true
+starts_now : (order : List Event) (node : NodeParts) (number : ℕ) (keys : Keys) → IsStartable order node number keys → starts order (plain_of node) number ≡ true
 starts_now order node number keys may = ap (λ (p : Answer × ModelNode). is_start p.0) may.is
 
-pub starts_by : {A : Type 0} (keys : A → Keys) (node : Node) (number : ℕ) (r : Result A Started)
+pub starts_by : {A : Type 0} (keys : A → Keys) (node : NodeParts) (number : ℕ) (r : Result A Started)
     → IfOk r (λ k. (order : List Event) → Stands order node → IsStartable order node number (keys k))
     → IfErr r (λ e. (order : List Event) → Stands order node → IsRefused order node number e)
     → (order : List Event) → Stands order node → is_ok r ≡ starts order (plain_of node) number
@@ -71,15 +71,15 @@ starts_by keys node number (Ok k) ok err order stands = sym (starts_now order no
 starts_by keys node number (Err e) ok err order stands = starts_not order node number e (err order stands)
 
 -- memory may be wanted where the unit starts
-pub wants_start : (order : List Event) (node : Node) (number : ℕ) (keys : Keys) → IsStartable order node number keys → StartWants order (plain_of node) number
+pub wants_start : (order : List Event) (node : NodeParts) (number : ℕ) (keys : Keys) → IsStartable order node number keys → StartWants order (plain_of node) number
 wants_start order node number keys may = starts_now order node number keys may
 
 -- what the start of the unit does is what the model does
-pub starts_done : (order : List Event) (node : Node) (number : ℕ) (keys : Keys) (after : Node) (a : Answer) → IsStartable order node number keys
+pub starts_done : (order : List Event) (node : NodeParts) (number : ℕ) (keys : Keys) (after : NodeParts) (a : Answer) → IsStartable order node number keys
     → DoneOver order (unit_started number keys) node after a → DoneOver order (λ n. start_step order n number) node after a
 starts_done order node number keys after a may done = record { same = done.same ∙ sym may.is; stands = done.stands }
 
-module _ (order : List Event) (node : Node) (number : ℕ) (stands : Stands order node) where
+module _ (order : List Event) (node : NodeParts) (number : ℕ) (stands : Stands order node) where
   abbrev n : ModelNode
   n = plain_of node
 

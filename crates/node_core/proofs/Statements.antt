@@ -34,7 +34,7 @@ use Rattle.row_model.specs.declared.calls.Call.{Call}
 use Rattle.node_meaning.specs.Node.{ModelNode, is_left, is_joining, rows_at, locks_of, set_live}
 use Rattle.node_meaning.specs.Client as client
 use Rattle.node_meaning.specs.Client.{first_line, where_true, refusal, met_by, extended, statement, statement_by, accepted, changed, send_fragment, is_pending}
-use Rattle.node_core.specs.declared.node.Node.{Node}
+use Rattle.node_core.specs.declared.node.NodeParts.{NodeParts}
 use Rattle.node_core.specs.declared.refusal.Met.{Met}
 use Rattle.node_core.specs.Client.{hindrance, closed_by}
 use Rattle.node_core.specs.Sending.{trx_after, node_after, grown_by}
@@ -71,20 +71,20 @@ err_map P Q (Ok x) f h = tt
 err_map P Q (Err e) f h = f h
 
 -- ---- a statement is added, and the fragment that it makes due is sent
-after_part : (a : Added) (t : Live) (node : Node) → node_after a t node
+after_part : (a : Added) (t : Live) (node : NodeParts) → node_after a t node
     ≡ record node { at = record node.at { serial = (node_after a t node).at.serial }; queue = (node_after a t node).queue }
 after_part added.Done t node = refl
 after_part added.Fragment t node = refl
 after_part added.TooLarge t node = refl
 
 -- ---- the transaction is taken out and put back
-around : (a : Added) (t : Live) (node : Node) (taken live : FiniteMap nat_cmp Live)
+around : (a : Added) (t : Live) (node : NodeParts) (taken live : FiniteMap nat_cmp Live)
     → record (node_after a t (record node { live = taken })) { live = live } ≡ record (node_after a t node) { live = live }
 around added.Done t node taken live = refl
 around added.Fragment t node taken live = refl
 around added.TooLarge t node taken live = refl
 
-pub extended_told : (node after : Node) (s : ℕ) (trx t new : Live) (taken live : FiniteMap nat_cmp Live) (told : Added) (p : Parts)
+pub extended_told : (node after : NodeParts) (s : ℕ) (trx t new : Live) (taken live : FiniteMap nat_cmp Live) (told : Added) (p : Parts)
     (k : Kind) (o : Option Op) → Some trx ≡ get node.live s → get node.live s ≡ Some t → taken ≡ remove node.live s
     → (told, new, after) ≡ grown_by (record node { live = taken }) (add_by trx p k o)
     → after ≡ record (record node { live = taken }) { at = after.at; queue = after.queue }
@@ -96,18 +96,18 @@ extended_told node after s trx t new taken live told p k o mine there left both 
     both ∙ ap (λ t. grown_by (record node { live = taken }) (add_by t p k o)) same in
     let b = add_by t p k o in
     let live_now : live ≡ insert node.live s (trx_after b.0 b.1) =
-    live_is ∙ ap (λ (n : Node). insert n.live s new) others ∙ ap (λ l. insert l s new) left ∙ insert-remove numbers node.live s new
-    ∙ ap (λ (p : Added × Live × Node). insert node.live s p.1) all in
+    live_is ∙ ap (λ (n : NodeParts). insert n.live s new) others ∙ ap (λ l. insert l s new) left ∙ insert-remove numbers node.live s new
+    ∙ ap (λ (p : Added × Live × NodeParts). insert node.live s p.1) all in
     (λ i. ((all i).0, record (all i).2 { live = live_now i }))
     ∙ ap (λ n. (b.0, n)) (around b.0 b.1 node taken (insert node.live s (trx_after b.0 b.1)))
 
-pub put_back : (node after : Node) (s : ℕ) (trx new : Live) (taken live : FiniteMap nat_cmp Live) → Some trx ≡ get node.live s
+pub put_back : (node after : NodeParts) (s : ℕ) (trx new : Live) (taken live : FiniteMap nat_cmp Live) → Some trx ≡ get node.live s
     → taken ≡ remove node.live s → after ≡ record node { live = taken } → new ≡ trx → live ≡ insert after.live s new
     → record after { live = live } ≡ node
 put_back node after s trx new taken live mine left after_is same live_is =
-    ap (λ (n : Node). record n { live = live }) after_is
+    ap (λ (n : NodeParts). record n { live = live }) after_is
     ∙ ap (λ l. record node { live = l })
-    (live_is ∙ ap (λ (n : Node). insert n.live s new) after_is ∙ ap (λ l. insert l s new) left ∙ insert-remove numbers node.live s new
+    (live_is ∙ ap (λ (n : NodeParts). insert n.live s new) after_is ∙ ap (λ l. insert l s new) left ∙ insert-remove numbers node.live s new
     ∙ ap (insert node.live s) same ∙ insert-there numbers node.live s trx (sym mine))
 
 -- ---- why a statement is refused
@@ -135,7 +135,7 @@ refusal-split None None (Some row) large (Some (op.Delete id)) = refl
 abbrev pub asked_for : RowId → Kind → Option Op → client.Statement
 asked_for id kind change = record { id = id; kind = kind; change = change }
 
-module _ (order : List Event) (node : Node) (session : ℕ) (id : RowId) (kind : Kind) (change : Option Op) (t : Live)
+module _ (order : List Event) (node : NodeParts) (session : ℕ) (id : RowId) (kind : Kind) (change : Option Op) (t : Live)
     (is : get node.live session ≡ Some t) (free : is_pending (Some t) ≡ false) (st : Stands order node) where
   -- what the parts show is what the model's statement meets
   held_same : (met_at node session id kind t).held ≡ (met_by order (plain_of node) session t (asked_for id kind change)).held
@@ -158,12 +158,12 @@ module _ (order : List Event) (node : Node) (session : ℕ) (id : RowId) (kind :
       ∷ where_true (is_too_large (extended t (asked_for id kind change))) reply.TooLarge ∷ []))
 
 -- what is met is what the parts show
-pub met_is : (node : Node) (session : ℕ) (id : RowId) (kind : Kind) (o : Option Live) (m : Met)
+pub met_is : (node : NodeParts) (session : ℕ) (id : RowId) (kind : Kind) (o : Option Live) (m : Met)
     → Some m ≡ option_map (met_at node session id kind) o → (t : Live) → o ≡ Some t → m ≡ met_at node session id kind t
 met_is node session id kind o m met t is =
     same_Some m (met_at node session id kind t) (met ∙ ap (option_map (met_at node session id kind)) is)
 
-refused_by : (order : List Event) (node : Node) (session : ℕ) (id : RowId) (kind : Kind) (change : Option Op) (t : Live)
+refused_by : (order : List Event) (node : NodeParts) (session : ℕ) (id : RowId) (kind : Kind) (change : Option Op) (t : Live)
     → get node.live session ≡ Some t → is_pending (Some t) ≡ false → (m : Met) → m ≡ met_at node session id kind t
     → (why : Reply) → hindrance m.held m.blocker m.row change ≡ Some why → Stands order node
     → DoneOver order (λ n. statement order n session (get n.live session) (asked_for id kind change)) node node why
@@ -181,7 +181,7 @@ refused_by order node session id kind change t is free m met why refused st =
       stands = st;
     }
 
-pub refused : (order : List Event) (node : Node) (session : ℕ) (id : RowId) (kind : Kind) (change : Option Op) (o : Option Live)
+pub refused : (order : List Event) (node : NodeParts) (session : ℕ) (id : RowId) (kind : Kind) (change : Option Op) (o : Option Live)
     → get node.live session ≡ o → is_pending o ≡ false → (m : Met) → Some m ≡ option_map (met_at node session id kind) o
     → (why : Reply) → hindrance m.held m.blocker m.row change ≡ Some why → Stands order node
     → DoneOver order (λ n. statement order n session (get n.live session) (asked_for id kind change)) node node why
@@ -225,7 +225,7 @@ accepted_is n session row (Some o) t = by (is_due t)
     by true = refl
     by false = refl
 
-plain_after : (a : Added) (node : Node) (session : ℕ) (t : Live)
+plain_after : (a : Added) (node : NodeParts) (session : ℕ) (t : Live)
     → plain_of (record (node_after a t node) { live = insert node.live session (trx_after a t) }) ≡ model_after a (plain_of node) session t
 plain_after added.Done node session t = refl
 plain_after added.Fragment node session t = refl
@@ -247,7 +247,7 @@ after_ops added.Done t = refl
 after_ops added.Fragment t = refl
 after_ops added.TooLarge t = refl
 
-module _ (order : List Event) (c0 c1 c2 : Node) (session : ℕ) (id : RowId) (kind : Kind) (change : Option Op) (t : Live)
+module _ (order : List Event) (c0 c1 c2 : NodeParts) (session : ℕ) (id : RowId) (kind : Kind) (change : Option Op) (t : Live)
     (is : get c0.live session ≡ Some t) (free : is_pending (Some t) ≡ false) (m : Met) (met : m ≡ met_at c0 session id kind t)
     (none : hindrance m.held m.blocker m.row change ≡ None) (same : Unchanged c0 c1) (told : Added)
     (both : (told, c2) ≡ told_and_put c1 session (add_by t (row_parts id) kind change)) (st : Stands order c0) where
@@ -276,7 +276,7 @@ module _ (order : List Event) (c0 c1 c2 : Node) (session : ℕ) (id : RowId) (ki
   after_add b large = both ∙ ap (λ b. told_and_put c1 session (added_unless b change t more)) large
 
   told_is : told ≡ (added_unless (is_too_large more) change t more).0
-  told_is = ap (λ (p : Added × Node). p.0) both
+  told_is = ap (λ (p : Added × NodeParts). p.0) both
 
   live_is : get c1.live session ≡ Some t
   live_is = ap (λ (n : ModelNode). get n.live session) same.plain ∙ is
@@ -286,7 +286,7 @@ module _ (order : List Event) (c0 c1 c2 : Node) (session : ℕ) (id : RowId) (ki
   grown_too_large too =
       let large : is_too_large more ≡ true = told_large (is_too_large more) change t more (sym told_is ∙ too) in
       let left : c2 ≡ c1 =
-      ap (λ (p : Added × Node). p.1) (after_add true large)
+      ap (λ (p : Added × NodeParts). p.1) (after_add true large)
       ∙ ap (λ l. record c1 { live = l }) (insert-there numbers c1.live session t live_is) in
       record {
         same =
@@ -295,7 +295,7 @@ module _ (order : List Event) (c0 c1 c2 : Node) (session : ℕ) (id : RowId) (ki
         stands = subst (Stands order) (sym left) (unchanged_stands order c0 c1 same st);
       }
 
-  module _ (small : told ≡ added.TooLarge → ⊥) (room : c0.units.room + 1 ≤ c1.rows.spare) (c3 : Node)
+  module _ (small : told ≡ added.TooLarge → ⊥) (room : c0.units.room + 1 ≤ c1.rows.spare) (c3 : NodeParts)
       (others : c3 ≡ record c2 { locks = c3.locks; rows = c3.rows })
       (locks : c3.locks.locks ≡ (granted c2.locks.locks (Session session) (row_parts id) kind).1)
       (changes : c3.rows.changes ≡ changes_after c2.rows session change) (committed : c3.rows.committed ≡ c2.rows.committed)
@@ -310,14 +310,14 @@ module _ (order : List Event) (c0 c1 c2 : Node) (session : ℕ) (id : RowId) (ki
     abbrev new : Live
     new = trx_after what more
 
-    abbrev mid : Node
+    abbrev mid : NodeParts
     mid = node_after what more c1
 
     put : c2 ≡ record mid { live = insert c1.live session new }
-    put = ap (λ (p : Added × Node). p.1) (after_add false is_small)
+    put = ap (λ (p : Added × NodeParts). p.1) (after_add false is_small)
 
     grown : c2 ≡ record c1 { at = record c1.at { serial = mid.at.serial }; queue = mid.queue; live = insert c1.live session new }
-    grown = put ∙ ap (λ (n : Node). record n { live = insert c1.live session new }) (after_part what more c1)
+    grown = put ∙ ap (λ (n : NodeParts). record n { live = insert c1.live session new }) (after_part what more c1)
 
     all_is : c3 ≡ record c1 {
       at = record c1.at { serial = mid.at.serial };
@@ -326,7 +326,7 @@ module _ (order : List Event) (c0 c1 c2 : Node) (session : ℕ) (id : RowId) (ki
       locks = c3.locks;
       rows = c3.rows;
     }
-    all_is = others ∙ ap (λ (n : Node). record n { locks = c3.locks; rows = c3.rows }) grown
+    all_is = others ∙ ap (λ (n : NodeParts). record n { locks = c3.locks; rows = c3.rows }) grown
 
     plain_is : plain_of c3 ≡ model_after what (plain_of c0) session more
     plain_is =
@@ -352,7 +352,7 @@ module _ (order : List Event) (c0 c1 c2 : Node) (session : ℕ) (id : RowId) (ki
         let model = locks_of c1.live c1.units.units in
         alike_between _ _ _ _
         (locks
-        ∙ ap (λ (n : Node). (granted n.locks.locks (Session session) (row_parts id) kind).1) grown
+        ∙ ap (λ (n : NodeParts). (granted n.locks.locks (Session session) (row_parts id) kind).1) grown
         ∙ ap (λ o. (granted_unless o c1.locks.locks (Session session) (row_parts id) kind).1)
         (block_alike c1.locks.locks model st1.tables.locks (Session session) (row_parts id) kind ∙ unblocked))
         (alike-with_lock c1.locks.locks model (Session session) (row_parts id) kind st1.tables.locks)
@@ -366,48 +366,48 @@ module _ (order : List Event) (c0 c1 c2 : Node) (session : ℕ) (id : RowId) (ki
         (λ row. made-alike (rows_at order c1.at.committed) row new t (locked_after ∙ sym locked)
         (after_ops what more ∙ ap (with_op t.ops) no_change)
         ∙ ap (made_by (rows_at order c1.at.committed) row) (sym live_is))
-        (committed ∙ ap (λ (n : Node). n.rows.committed) grown)
-        (changes ∙ ap (changes_after c2.rows session) no_change ∙ ap (λ (n : Node). n.rows.changes) grown)
+        (committed ∙ ap (λ (n : NodeParts). n.rows.committed) grown)
+        (changes ∙ ap (changes_after c2.rows session) no_change ∙ ap (λ (n : NodeParts). n.rows.changes) grown)
     rows_now (Some o) some_change =
         let key = key_changes (row_parts id) kind o (subst (λ c. IfSome c (λ o. IsKeyOf (row_parts id) kind o)) some_change fits.key) in
         let unowned = free_row order (plain_of c1) (rows_at order c1.at.committed) c1.rows st1.facts st1.tables.rows session (id_of o) kind
         key.1 (ap (λ p. blocker (locks_of c1.live c1.units.units) (Session session) p kind) (sym key.0) ∙ unblocked) in
         tabled-written (rows_at order c1.at.committed) c1.live c1.rows c3.rows st1.tables.rows session t new o live_is locked
         (after_ops what more ∙ ap (with_op t.ops) some_change) locked_after unowned
-        (committed ∙ ap (λ (n : Node). n.rows.committed) grown)
-        (changes ∙ ap (changes_after c2.rows session) some_change ∙ ap (λ (n : Node). (written n.rows session o).1) grown
+        (committed ∙ ap (λ (n : NodeParts). n.rows.committed) grown)
+        (changes ∙ ap (changes_after c2.rows session) some_change ∙ ap (λ (n : NodeParts). (written n.rows session o).1) grown
         ∙ ap (λ w. (written_unless w c1.rows session o).1) unowned)
 
     pub grown_stands : DoneOver order (λ n. statement order n session (get n.live session) asked) c0 c3 (reply_after told m.row change)
     grown_stands =
         let had = st1.tables.room in
         let unit_room = same.unit_room in
-        let new_room : c3.units.room ≡ c1.units.room = ap (λ (n : Node). n.units.room) all_is in
-        let mid_spare : c2.rows.spare ≡ c1.rows.spare = ap (λ (n : Node). n.rows.spare) grown in
+        let new_room : c3.units.room ≡ c1.units.room = ap (λ (n : NodeParts). n.units.room) all_is in
+        let mid_spare : c2.rows.spare ≡ c1.rows.spare = ap (λ (n : NodeParts). n.rows.spare) grown in
         let row_is : m.row ≡ (met_by order (plain_of c0) session t asked).row =
         ap (λ (m : Met). m.row) met ∙ row_same order c0 session id kind change t is free st in
-        let told_now : told ≡ what = ap (λ (p : Added × Node). p.0) (after_add false is_small) in
+        let told_now : told ≡ what = ap (λ (p : Added × NodeParts). p.0) (after_add false is_small) in
         let done_is : (reply_after told m.row change, plain_of c3) ≡ statement order (plain_of c0) session (Some t) asked =
         (λ i. (reply_after (told_now i) (row_is i) change, plain_is i))
         ∙ sym (accepted_is (plain_of c0) session (met_by order (plain_of c0) session t asked).row change more)
         ∙ sym (statement_is false is_small) in
         record {
           same = done_is ∙ ap (λ o. statement order (plain_of c0) session o asked) (sym is);
-          stands = stands_by order c1 c3 st1 (ap (λ (n : Node). n.at.committed) all_is)
-              (ap (λ (n : Node). n.at.certified) all_is) (ap (λ (n : Node). n.at.taken) all_is)
-              (ap (λ (n : Node). n.inbox) all_is) (ap (λ (n : Node). n.certification) all_is)
+          stands = stands_by order c1 c3 st1 (ap (λ (n : NodeParts). n.at.committed) all_is)
+              (ap (λ (n : NodeParts). n.at.certified) all_is) (ap (λ (n : NodeParts). n.at.taken) all_is)
+              (ap (λ (n : NodeParts). n.inbox) all_is) (ap (λ (n : NodeParts). n.certification) all_is)
               (record {
-                locks = subst (λ (n : Node). HoldAlike c3.locks.locks (locks_of n.live n.units.units)) (sym all_is) locks_now;
-                rows = subst (λ (n : Node). Tabled (rows_at order n.at.committed) n.live c3.rows) (sym all_is)
+                locks = subst (λ (n : NodeParts). HoldAlike c3.locks.locks (locks_of n.live n.units.units)) (sym all_is) locks_now;
+                rows = subst (λ (n : NodeParts). Tabled (rows_at order n.at.committed) n.live c3.rows) (sym all_is)
                     (rows_now change refl);
-                units = subst (AreWorked order) (sym (ap (λ (n : Node). n.units) all_is)) st1.tables.units;
+                units = subst (AreWorked order) (sym (ap (λ (n : NodeParts). n.units) all_is)) st1.tables.units;
                 room = omega (arith, room, unit_room, new_room, mid_spare, spare);
               })
               (facts_extended order c0 c3 st session t is free asked fits range (reply_after told m.row change) done_is);
         }
 
 -- a statement is only made of a live transaction
-pub some_live : (node : Node) (session : ℕ) (id : RowId) (kind : Kind) (o : Option Live) (m : Met)
+pub some_live : (node : NodeParts) (session : ℕ) (id : RowId) (kind : Kind) (o : Option Live) (m : Met)
     → Some m ≡ option_map (met_at node session id kind) o → (t : Live) × (o ≡ Some t)
 some_live node session id kind None m met = absurd (some_none m met)
 some_live node session id kind (Some t) m met = (t, refl)
@@ -434,7 +434,7 @@ client_by order n session c none =
     ap (λ o. client.told_first n session o (client.asked order n session (get n.live session) c)) none
     ∙ asked_by order n session (get n.live session) c
 
-module _ (order : List Event) (old : Node) (session : ℕ) (c : Call) (waiting : FiniteMap nat_cmp Reply)
+module _ (order : List Event) (old : NodeParts) (session : ℕ) (c : Call) (waiting : FiniteMap nat_cmp Reply)
     (left : waiting ≡ remove old.waiting session) (st : Stands order old) where
   -- a waiting answer is told
   pub told : (said : Reply) → get old.waiting session ≡ Some said
@@ -475,7 +475,7 @@ module _ (order : List Event) (old : Node) (session : ℕ) (c : Call) (waiting :
     }
 
     -- a call of the table
-    pub done : (new : Node) (said : Reply) → closed_by old.at (get old.live session) ≡ None
+    pub done : (new : NodeParts) (said : Reply) → closed_by old.at (get old.live session) ≡ None
         → Does (λ order n. client.served order n session (get n.live session) c) (record old { waiting = waiting }) new said
         → DoneOver order (λ n. client.client order n session c) old new said
     done new said open_to does =
@@ -489,7 +489,7 @@ module _ (order : List Event) (old : Node) (session : ℕ) (c : Call) (waiting :
         }
 
 -- a call of the table that lacks memory
-pub unchanged_before : (old new : Node) (session : ℕ) (waiting : FiniteMap nat_cmp Reply) → waiting ≡ remove old.waiting session
+pub unchanged_before : (old new : NodeParts) (session : ℕ) (waiting : FiniteMap nat_cmp Reply) → waiting ≡ remove old.waiting session
     → get old.waiting session ≡ None → Unchanged (record old { waiting = waiting }) new → Unchanged old new
 unchanged_before old new session waiting left none same =
     subst (λ n. Unchanged n new)

@@ -10,7 +10,7 @@ use Rattle.order_event.specs.declared.step.Answer.TheVariants as answer
 use Rattle.node_meaning.specs.Node.{ModelNode, is_connected}
 use Rattle.node_meaning.specs.Steps.{take_step, take_event, took, unqueued, is_write, is_report, is_this_write, without_first}
 use Rattle.node_parts.specs.Queue.{Queued, taken as without_oldest}
-use Rattle.node_core.specs.declared.node.Node.{Node}
+use Rattle.node_core.specs.declared.node.NodeParts.{NodeParts}
 use Rattle.node_core.specs.declared.answers.Taken.{Taken}
 use Rattle.node_core.specs.declared.answers.Taken.TheVariants as taken
 use Rattle.node_core.specs.Answers.{taken_answer}
@@ -20,7 +20,7 @@ use Rattle.node_core.specs.Taking.{with_event, took_with, taken_own}
 use Rattle.std.proofs.lemmas.Bool.{eqb-true, eq-eqb}
 use Rattle.node_core.proofs.Standing.{taken_one}
 
-module _ (order : List Event) (old : Node) (stands : Stands order old) where
+module _ (order : List Event) (old : NodeParts) (stands : Stands order old) where
   -- a node that is not connected takes nothing
   pub take_away : is_connected old.at.phase ≡ false → DoneOver order (take_step order) old old answer.Nothing
   unfolding take_step
@@ -78,12 +78,12 @@ module _ (order : List Event) (old : Node) (stands : Stands order old) where
   own_taken sender body false connected there own is =
       take_split (event.Write sender body) connected there (by_own (plain_of old) sender body true false own is)
 
-  done_by : (r : Taken) (new : Node) (made : Taken × Node) → (r, new) ≡ made
+  done_by : (r : Taken) (new : NodeParts) (made : Taken × NodeParts) → (r, new) ≡ made
       → DoneOver order (take_step order) old made.1 (taken_answer made.0) → DoneOver order (take_step order) old new (taken_answer r)
-  done_by r new made same done = subst (λ (p : Taken × Node). DoneOver order (take_step order) old p.1 (taken_answer p.0)) (sym same) done
+  done_by r new made same done = subst (λ (p : Taken × NodeParts). DoneOver order (take_step order) old p.1 (taken_answer p.0)) (sym same) done
 
   -- a write set of the node's own member
-  pub own_does : (e : Event) (sender : ℕ) (body : List ℕ) (r : Taken) (new : Node) → e ≡ event.Write sender body
+  pub own_does : (e : Event) (sender : ℕ) (body : List ℕ) (r : Taken) (new : NodeParts) → e ≡ event.Write sender body
       → is_connected old.at.phase ≡ true → sender ≡ old.at.member → slice_get order old.at.taken ≡ Some e
       → (r, new) ≡ taken_own (is_this_write body (find is_write old.queue.ordered)) old e
       → DoneOver order (take_step order) old new (taken_answer r)
@@ -93,13 +93,13 @@ module _ (order : List Event) (old : Node) (stands : Stands order old) where
       (own_taken sender body _ connected (there ∙ ap Some is) (eq-eqb sender old.at.member own) refl)
 
   -- an event that the node did not send
-  pub other_does : (e : Event) (r : Taken) (new : Node) → unqueued (plain_of old) e ≡ Some (plain_of old)
+  pub other_does : (e : Event) (r : Taken) (new : NodeParts) → unqueued (plain_of old) e ≡ Some (plain_of old)
       → is_connected old.at.phase ≡ true → slice_get order old.at.taken ≡ Some e → (r, new) ≡ took_with old e old.queue
       → DoneOver order (take_step order) old new (taken_answer r)
   other_does e r new is connected there same = done_by r new (took_with old e old.queue) same (take_with e connected there old.queue is)
 
   -- a report of the node's own member
-  pub own_report_does : (e : Event) (sender number : ℕ) (r : Taken) (new : Node) → e ≡ event.Report sender number
+  pub own_report_does : (e : Event) (sender number : ℕ) (r : Taken) (new : NodeParts) → e ≡ event.Report sender number
       → is_connected old.at.phase ≡ true → sender ≡ old.at.member → slice_get order old.at.taken ≡ Some e
       → (r, new) ≡ took_with old e (without_oldest is_report old.queue)
       → DoneOver order (take_step order) old new (taken_answer r)
@@ -131,6 +131,6 @@ pub view_stays : (n : ModelNode) (e : Event) (version : ℕ) (members : List ℕ
 view_stays n e version members is = ap (unqueued n) is
 
 -- a split tells the number of the event
-pub split_number : (old : Node) (e : Event) (here : Bool) (n : ℕ) → (taken_own here old e).0 ≡ taken.Split n → n ≡ old.at.taken + 1
+pub split_number : (old : NodeParts) (e : Event) (here : Bool) (n : ℕ) → (taken_own here old e).0 ≡ taken.Split n → n ≡ old.at.taken + 1
 split_number old e true n is = cc
 split_number old e false n is = cc

@@ -11,7 +11,7 @@ use Rattle.apply_unit.specs.Task.{ModelTask}
 use Rattle.undo_rows.specs.RowTable.{Changes, seen, without as without_owner}
 use Rattle.node_parts.specs.Units.{without, done_of, rows_of}
 use Rattle.node_meaning.specs.Steps.{is_finished}
-use Rattle.node_core.specs.declared.node.Node.{Node}
+use Rattle.node_core.specs.declared.node.NodeParts.{NodeParts}
 
 -- no live transaction has changed a row of the images
 abbrev pub AreFree : Changes → List Image → Type 0
@@ -23,7 +23,7 @@ results_of None = []
 results_of (Some task) = computed task.ops task.images
 
 -- the unit with a number is taken out, and its results become the committed rows
-pub record TakesUnit (number : ℕ) (old new : Node) : Type 0 where
+pub record TakesUnit (number : ℕ) (old new : NodeParts) : Type 0 where
   pub rest : new ≡ record old { units = new.units; locks = new.locks; rows = new.rows }
   pub units : new.units ≡ without old.units number
   pub locks : new.locks.locks ≡ remove old.locks.locks (UnitHolder number)
@@ -37,7 +37,7 @@ pub record TakesUnit (number : ℕ) (old new : Node) : Type 0 where
   pub rows : rows_of (get old.units.work number) ≤ old.units.room
 
 -- the session's transaction ends and its changes become committed
-pub record IsCommitted (session number : ℕ) (old new : Node) : Type 0 where
+pub record IsCommitted (session number : ℕ) (old new : NodeParts) : Type 0 where
   pub rest : new
       ≡ record old { live = new.live; waiting = new.waiting; locks = new.locks; rows = new.rows }
   pub live : new.live ≡ remove old.live session
@@ -48,6 +48,6 @@ pub record IsCommitted (session number : ℕ) (old new : Node) : Type 0 where
   pub spare : old.rows.spare ≤ new.rows.spare
 
 -- what becomes of the transaction that commits, if one does
-abbrev pub AfterCommitter : Option (ℕ × Live) → ℕ → Node → Node → Type 0
+abbrev pub AfterCommitter : Option (ℕ × Live) → ℕ → NodeParts → NodeParts → Type 0
 AfterCommitter None number old new = new ≡ old
 AfterCommitter (Some e) number old new = IsCommitted e.0 number old new

@@ -9,3 +9,4 @@ pub mod Starting
 pub mod Statement
 pub mod Tabled
 pub mod Taking
+pub mod Watching

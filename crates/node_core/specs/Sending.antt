@@ -10,16 +10,16 @@ use Rattle.client_trx.specs.declared.status.Status.TheVariants as status
 use Rattle.client_trx.specs.declared.status.Added.{Added}
 use Rattle.client_trx.specs.declared.status.Added.TheVariants as added
 use Rattle.node_parts.specs.Queue.{queued}
-use Rattle.node_core.specs.declared.node.Node.{Node}
+use Rattle.node_core.specs.declared.node.NodeParts.{NodeParts}
 
 -- a write set is sent with the next serial
-abbrev pub node_sent : Node → WriteSet → Node
+abbrev pub node_sent : NodeParts → WriteSet → NodeParts
 node_sent node w = record node {
   at = record node.at { serial = node.at.serial + 1 };
   queue = queued node.queue (message.Write (spelling w));
 }
 
-abbrev pub node_sent_any : Node → Option WriteSet → Node
+abbrev pub node_sent_any : NodeParts → Option WriteSet → NodeParts
 node_sent_any node None = node
 node_sent_any node (Some w) = node_sent node w
 
@@ -35,11 +35,11 @@ trx_after added.Fragment t = fragment_sent t
 trx_after added.TooLarge t = t
 
 -- the node once that fragment is sent
-abbrev pub node_after : Added → Live → Node → Node
+abbrev pub node_after : Added → Live → NodeParts → NodeParts
 node_after added.Done t node = node
 node_after added.Fragment t node = node_sent node (fragment_of t node.at.serial node.at.committed)
 node_after added.TooLarge t node = node
 
 -- what became of a statement, the transaction and the node
-abbrev pub grown_by : Node → Added × Live → Added × Live × Node
+abbrev pub grown_by : NodeParts → Added × Live → Added × Live × NodeParts
 grown_by node both = (both.0, trx_after both.0 both.1, node_after both.0 both.1 node)

@@ -8,13 +8,13 @@ use Rattle.node_meaning.specs.declared.progress.Stage.{Stage}
 use Rattle.node_meaning.specs.declared.progress.Stage.TheVariants as stage
 use Rattle.node_meaning.specs.Node.{ModelNode, ApplyUnit, locks_of, rows_at}
 use Rattle.node_meaning.specs.Facts.{Facts}
-use Rattle.node_core.specs.declared.node.Node.{Node}
+use Rattle.node_core.specs.declared.node.NodeParts.{NodeParts}
 use Rattle.node_core.specs.Tabled.{Tabled}
 use Rattle.node_meaning.specs.Units.{ops_at, unit_task, named_rows}
 use Rattle.node_parts.specs.Units.{Work, UnitTable}
 
 -- the model node that the code keeps
-abbrev pub plain_of : Node → ModelNode
+abbrev pub plain_of : NodeParts → ModelNode
 plain_of node = record {
   at = node.at;
   id = node.id;
@@ -39,14 +39,14 @@ pub record AreWorked (order : List Event) (table : UnitTable) : Type 0 where
       → (work : Work) × (get table.work number ≡ Some work) × IsWorked order number u work
 
 -- locks, rows and units are those of the live transactions and units over the rows committed so far
-pub record Tables (order : List Event) (node : Node) : Type 0 where
+pub record Tables (order : List Event) (node : NodeParts) : Type 0 where
   pub locks : HoldAlike node.locks.locks (locks_of node.live node.units.units)
   pub rows : Tabled (rows_at order node.at.committed) node.live node.rows
   pub units : AreWorked order node.units
   pub room : node.units.room ≤ node.rows.spare
 
 -- the node stands for the model node that it keeps
-pub record Stands (order : List Event) (node : Node) : Type 0 where
+pub record Stands (order : List Event) (node : NodeParts) : Type 0 where
   pub inbox : node.inbox ≡ drop node.at.certified (take node.at.taken order)
   pub certification : Certifies order node.at.committed node.at.certified node.certification
   pub tables : Tables order node
@@ -55,12 +55,13 @@ pub record Stands (order : List Event) (node : Node) : Type 0 where
 -- a call over one order: its answer and the model node after it are the model's, and the node
 -- stands
 pub record DoneOver {A : Type 0} (order : List Event) (f : ModelNode → A × ModelNode)
-    (old new : Node) (answer : A) : Type 0 where
+    (old new : NodeParts) (answer : A) : Type 0 where
   pub same : (answer, plain_of new) ≡ f (plain_of old)
   pub stands : Stands order new
 
 -- a call does what the model does, over every order for which the node stands
-abbrev pub Does : {A : Type 0} → (List Event → ModelNode → A × ModelNode) → Node → Node → A → Type 0
+abbrev pub Does : {A : Type 0} → (List Event → ModelNode → A × ModelNode)
+    → NodeParts → NodeParts → A → Type 0
 Does f old new answer =
     (order : List Event) → Stands order old → DoneOver order (f order) old new answer
 
@@ -69,7 +70,7 @@ abbrev pub quietly : (ModelNode → ModelNode) → List Event → ModelNode → 
 quietly f order n = (tt, f n)
 
 -- after want of memory all is as it was; there may be more room
-pub record Unchanged (old new : Node) : Type 0 where
+pub record Unchanged (old new : NodeParts) : Type 0 where
   pub plain : plain_of new ≡ plain_of old
   pub inbox : new.inbox ≡ old.inbox
   pub certification : new.certification ≡ old.certification
@@ -81,12 +82,12 @@ pub record Unchanged (old new : Node) : Type 0 where
   pub room : old.rows.spare ≤ new.rows.spare
 
 -- in the middle of a call: the tables go along with the model node, and nothing else moves
-pub record Moves (f : ModelNode → ModelNode) (old new : Node) : Type 0 where
+pub record Moves (f : ModelNode → ModelNode) (old new : NodeParts) : Type 0 where
   pub plain : plain_of new ≡ f (plain_of old)
   pub inbox : new.inbox ≡ old.inbox
   pub certification : new.certification ≡ old.certification
   pub tables : (order : List Event) → Tables order old → Tables order new
 
 -- there is an order for which the node stands: so a node is at its start, and each call keeps it
-abbrev pub IsStanding : Node → Type 0
+abbrev pub IsStanding : NodeParts → Type 0
 IsStanding node = (order : List Event) × Stands order node

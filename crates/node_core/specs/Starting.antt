@@ -20,7 +20,7 @@ use Rattle.node_meaning.specs.Facts.{commit_at}
 use Rattle.node_meaning.specs.Steps.{is_local, started, start_step}
 use Rattle.node_parts.specs.Queue.{all_queued}
 use Rattle.node_parts.specs.Units.{added}
-use Rattle.node_core.specs.declared.node.Node.{Node}
+use Rattle.node_core.specs.declared.node.NodeParts.{NodeParts}
 use Rattle.node_core.specs.declared.answers.Started.{Started}
 use Rattle.node_core.specs.Tabled.{Tabled}
 use Rattle.node_core.specs.Answers.{started_answer, GivesTask}
@@ -29,7 +29,8 @@ use Rattle.node_core.specs.Memory.{is_start}
 
 -- a commit that passed and is not committed, has no unit and is no live transaction's, and is
 -- touched by none before it
-pub record CanStart (order : List Event) (node : Node) (number : ℕ) (keys : Keys) : Type 0 where
+pub record CanStart (order : List Event) (node : NodeParts) (number : ℕ)
+    (keys : Keys) : Type 0 where
   pub stands : Stands order node
   pub above : node.at.committed < number
   pub within : number ≤ node.at.certified
@@ -65,7 +66,7 @@ with_sent n sent = record n {
 }
 
 -- these messages are sent, and a unit starts
-abbrev pub entered : Node → ℕ → Keys → ℕ → List Message → Node
+abbrev pub entered : NodeParts → ℕ → Keys → ℕ → List Message → NodeParts
 entered node number keys rows sent = record node {
   at = record node.at { serial = node.at.serial + length sent };
   queue = all_queued node.queue sent;
@@ -73,12 +74,13 @@ entered node number keys rows sent = record node {
 }
 
 -- the unit of these keys is what the model starts
-pub record IsStartable (order : List Event) (node : Node) (number : ℕ) (keys : Keys) : Type 0 where
+pub record IsStartable (order : List Event) (node : NodeParts) (number : ℕ)
+    (keys : Keys) : Type 0 where
   pub can : CanStart order node number keys
   pub is : start_step order (plain_of node) number ≡ unit_started number keys (plain_of node)
 
 -- the model starts no unit, and answers so
-pub record IsRefused (order : List Event) (node : Node) (number : ℕ)
+pub record IsRefused (order : List Event) (node : NodeParts) (number : ℕ)
     (refused : Started) : Type 0 where
   pub done : DoneOver order (λ n. start_step order n number) node node
       (started_answer number refused)
@@ -86,13 +88,13 @@ pub record IsRefused (order : List Event) (node : Node) (number : ℕ)
   pub task : GivesTask order number refused
 
 -- the unit is started over one order, and its task is given
-pub record IsStartedOver (order : List Event) (number : ℕ) (keys : Keys) (old new : Node)
+pub record IsStartedOver (order : List Event) (number : ℕ) (keys : Keys) (old new : NodeParts)
     (given : Started) : Type 0 where
   pub task : GivesTask order number given
   pub done : DoneOver order (unit_started number keys) old new (started_answer number given)
 
 -- in the middle of aborting: locks and rows go along with the live transactions, and the units stay
-pub record Aborts (f : ModelNode → ModelNode) (old new : Node) : Type 0 where
+pub record Aborts (f : ModelNode → ModelNode) (old new : NodeParts) : Type 0 where
   pub plain : plain_of new ≡ f (plain_of old)
   pub at : new.at ≡ old.at
   pub inbox : new.inbox ≡ old.inbox

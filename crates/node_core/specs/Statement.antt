@@ -16,12 +16,12 @@ use Rattle.row_locks.specs.declared.holder.Holder.TheVariants.{Session}
 use Rattle.row_locks.specs.Locks.{blocker}
 use Rattle.undo_rows.specs.RowTable.{RowTable, Changes, seen, written}
 use Rattle.node_meaning.specs.Client.{row_reply}
-use Rattle.node_core.specs.declared.node.Node.{Node}
+use Rattle.node_core.specs.declared.node.NodeParts.{NodeParts}
 use Rattle.node_core.specs.declared.refusal.Met.{Met}
 use Rattle.node_core.specs.Sending.{trx_after, node_after}
 
 -- what a statement of a transaction meets in the parts of a node
-abbrev pub met_at : Node → ℕ → RowId → Kind → Live → Met
+abbrev pub met_at : NodeParts → ℕ → RowId → Kind → Live → Met
 met_at node session id kind t = record {
   held = holder_of t.trx (one_key (row_parts id) kind) node.certification;
   blocker = blocker node.locks.locks (Session session) (row_parts id) kind;
@@ -29,7 +29,7 @@ met_at node session id kind t = record {
 }
 
 -- what became of a statement, and the node with the transaction at the session
-abbrev pub told_and_put : Node → ℕ → Added × Live → Added × Node
+abbrev pub told_and_put : NodeParts → ℕ → Added × Live → Added × NodeParts
 told_and_put node session both = (
   both.0,
   record (node_after both.0 both.1 node) {

@@ -5,10 +5,10 @@ use Rattle.node_meaning.specs.Steps.{is_write}
 use Rattle.node_parts.specs.Queue.{Queued, taken as without_oldest}
 use Rattle.node_core.specs.declared.answers.Taken.{Taken}
 use Rattle.node_core.specs.declared.answers.Taken.TheVariants as taken
-use Rattle.node_core.specs.declared.node.Node.{Node}
+use Rattle.node_core.specs.declared.node.NodeParts.{NodeParts}
 
 -- the event is in the inbox, and the queue is this one
-abbrev pub with_event : Node → Event → Queued → Node
+abbrev pub with_event : NodeParts → Event → Queued → NodeParts
 with_event node e queue = record node {
   at = record node.at { taken = node.at.taken + 1 };
   inbox = node.inbox ++ e ∷ [];
@@ -16,10 +16,10 @@ with_event node e queue = record node {
 }
 
 -- it is taken
-abbrev pub took_with : Node → Event → Queued → Taken × Node
+abbrev pub took_with : NodeParts → Event → Queued → Taken × NodeParts
 took_with node e queue = (taken.Took (node.at.taken + 1), with_event node e queue)
 
 -- a write set of the node's own member, which is the oldest that it had ordered, or is not
-abbrev pub taken_own : Bool → Node → Event → Taken × Node
+abbrev pub taken_own : Bool → NodeParts → Event → Taken × NodeParts
 taken_own false node e = (taken.Split (node.at.taken + 1), node)
 taken_own true node e = took_with node e (without_oldest is_write node.queue)

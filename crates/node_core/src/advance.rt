@@ -1,41 +1,50 @@
-ghost use Rattle.std.specs.Prelude.{◌≡◌, ◌≤◌, ◌+◌, ◌||◌, length, is_none, IsTrue};
+ghost use Rattle.std.specs.Prelude.{◌≡◌, ◌≤◌, ◌+◌, ◌||◌, length, is_none, option_map, IsTrue};
+ghost use Rattle.node_core.specs.Watching.{noted};
 ghost use Rattle.finite_map.specs.FiniteMap.{get};
 ghost use Rattle.apply_unit.specs.Results.{put_all};
 ghost use Rattle.node_core.specs.Advancing.{AreFree, TakesUnit, IsCommitted, AfterCommitter};
 
 use crate::answers::Advanced;
-use crate::node::Node;
+use crate::node::NodeParts;
 use node_parts::{committer_of, is_local};
 use row_locks::Holder;
 use row_model::{Reply, Row, RowId};
 use undo_rows::{Overlay, Rows};
+use wsrep_base::Judged;
+use wsrep_watch::Note;
 
-impl Node {
+impl NodeParts {
+    ghost use Rattle.std.specs.Prelude.{List};
+    ghost use Rattle.order_event.specs.declared.event.Event.{Event};
     ghost use Rattle.certification.specs.Certifies.{commit_with};
     ghost use Rattle.node_parts.specs.Units.{done_of, rows_of};
     ghost use Rattle.node_meaning.specs.Steps.{advance_step, is_finished, committer_of as committer, is_local as local};
     ghost use Rattle.node_core.specs.Advancing.{results_of};
+    ghost use Rattle.node_core.specs.Watching.{AdvancedTo, note_due};
     ghost use Rattle.node_core.specs.Answers.{advanced_answer};
     ghost use Rattle.node_core.specs.Stands.{IsStanding, Stands, Does};
 
-    /// Commits the next number that was certified, if it is ready. It takes no memory.
-    pub fn advance(&mut self) -> Advanced
+    /// Commits the next number that was certified, if it is ready, and gives the note of it.
+    pub(crate) fn advance(&mut self) -> (Advanced, Option<Note>)
         requires stands { IsStanding self.old }
-        ensures { Does (λ order n. advance_step order n) self.old self.new
-            (advanced_answer result) }
+        ensures does { Does (λ order n. advance_step order n) self.old self.new
+            (advanced_answer result.0) }
+        ensures to { AdvancedTo result.0 self.old.at.committed self.new.at.committed }
+        ensures note { (order : List Event) → Stands order self.old
+            → result.1 ≡ note_due order result.0 }
     {
         if self.at.committed == self.at.certified {
-            return Advanced::Nothing;
+            return (Advanced::Nothing, None);
         }
         let number = self.at.committed + 1;
         if !self.is_ready(number) {
-            return Advanced::NotReady(number);
+            return (Advanced::NotReady(number), None);
         }
         self.take_unit(number);
         self.end_committer(number);
-        self.certification.commit(number);
+        let judged = self.certification.commit(number);
         self.at.committed = number;
-        Advanced::At(number)
+        (Advanced::At(number), note_of(number, judged))
     }
 
     // Whether the number is no passed commit, or its unit is finished, or it is a live local one.
@@ -87,6 +96,16 @@ impl Node {
         self.rows.keep(session);
         self.locks.release(Holder::Session(session));
         self.waiting.put(session, Reply::Committed(number));
+    }
+}
+
+// The note of a number, where it is known what became of it.
+fn note_of(number: u64, judged: Option<Judged>) -> Option<Note>
+    ensures { result ≡ option_map (noted number) judged }
+{
+    match judged {
+        Some(judged) => Some(Note { number, judged }),
+        None => None,
     }
 }
 

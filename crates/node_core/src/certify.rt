@@ -3,7 +3,7 @@ ghost use Rattle.node_meaning.specs.Steps.{verdict_of};
 ghost use Rattle.node_core.specs.Certifying.{is_write_of, told_if};
 
 use crate::answers::Certified;
-use crate::node::Node;
+use crate::node::NodeParts;
 use client_trx::Outcome;
 use node_parts::session_of;
 use order_event::Event;
@@ -12,7 +12,7 @@ use undo_rows::Rows;
 use write_set::WriteSet;
 use wsrep_base::{Judged, NoMemory, Verdict};
 
-impl Node {
+impl NodeParts {
     ghost use Rattle.node_meaning.specs.Steps.{certify_step, told_verdict, session_of as found};
     ghost use Rattle.node_core.specs.Answers.{certified_answer};
     ghost use Rattle.node_core.specs.Memory.{CertifyWants};

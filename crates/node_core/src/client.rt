@@ -1,7 +1,7 @@
 ghost use Rattle.std.specs.Prelude.{◌≡◌, ◌≤◌, ◌<◌, ◌^◌, List, is_none, is_some, IfSome, IfOk, OnOk, OnErr, IsTrue, false};
 ghost use Rattle.finite_map.specs.FiniteMap.{get};
 
-use crate::node::Node;
+use crate::node::NodeParts;
 use crate::ranges::progress_in_range;
 use crate::refusal::row_reply;
 use client_trx::Trx;
@@ -14,7 +14,7 @@ use undo_rows::Rows;
 use write_set::{WriteSet, encode};
 use wsrep_base::{NoMemory, TrxId};
 
-impl Node {
+impl NodeParts {
     ghost use Rattle.row_model.specs.Names.{call_fits};
     ghost use Rattle.order_event.specs.declared.event.Event.{Event};
     ghost use Rattle.node_meaning.specs.Node.{rows_at, seen_rows, end_live};

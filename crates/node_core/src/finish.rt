@@ -1,10 +1,10 @@
 ghost use Rattle.std.specs.Prelude.{◌≡◌, ℕ, List, IfOk, IfErr, OnErr, IsTrue, false};
 ghost use Rattle.finite_map.specs.FiniteMap.{get};
 
-use crate::node::Node;
+use crate::node::NodeParts;
 use apply_unit::Done;
 
-impl Node {
+impl NodeParts {
     ghost use Rattle.order_event.specs.declared.event.Event.{Event};
     ghost use Rattle.order_event.specs.declared.step.Answer.TheVariants as answer;
     ghost use Rattle.node_meaning.specs.Steps.{finish_step};

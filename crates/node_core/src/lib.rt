@@ -14,6 +14,7 @@ mod report;
 mod start;
 mod statement;
 mod take;
+mod watched;
 
 pub use answers::{Advanced, Certified, Place, Reported, Started, Taken};
-pub use node::Node;
+pub use watched::{Node, NodeOf};

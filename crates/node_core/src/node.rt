@@ -16,7 +16,7 @@ use wsrep_base::{NoMemory, StateId};
 
 /// A node. Each part has its own contract; what it stands for as a whole is told over an order.
 #[derive(Drop)]
-pub struct Node {
+pub struct NodeParts {
     pub(crate) alloc: Global,
     pub(crate) at: Progress,
     pub(crate) id: StateId,
@@ -33,7 +33,7 @@ pub struct Node {
     pub(crate) rows: Overlay,
 }
 
-impl Node {
+impl NodeParts {
     ghost use Rattle.wsrep_base.specs.StateId.{nil_id};
     ghost use Rattle.order_event.specs.declared.event.Event.{Event};
     ghost use Rattle.undo_rows.specs.RowTable.{row_items};
@@ -44,13 +44,13 @@ impl Node {
 
     /// A node at its start, connected, with this state id and member number. The size of the ring
     /// of events, in bytes, is not used yet.
-    pub fn new(alloc: Global, id: StateId, member: u32, _gcache: u64) -> Result<Node, NoMemory>
+    pub fn new(alloc: Global, id: StateId, member: u32, _gcache: u64) -> Result<NodeParts, NoMemory>
         requires id { id ≢ nil_id }
         requires ring { _gcache ≤ 16_777_216 }
         ensures start { IfOk result (λ node. plain_of node ≡ start_node id member) }
         ensures stands { IfOk result (λ node. (order : List Event) → Stands order node) }
     {
-        Ok(Node {
+        Ok(NodeParts {
             alloc,
             at: Progress {
                 phase: Phase::Connected,
@@ -74,73 +74,11 @@ impl Node {
         })
     }
 
-    /// The oldest message that waits to be ordered; None exactly where none does.
-    pub fn first_out(&self) -> Option<&Message>
-        ensures { option_copied result ≡ oldest self.now.queue.outbox }
-    {
-        self.queue.first_out()
-    }
-
     /// The oldest message that waits counts as ordered.
     pub fn sent_out(&mut self)
         requires { 0 < length self.old.queue.outbox }
         ensures { Does (quietly sent_out) self.old self.new tt }
     {
         self.queue.sent_out();
-    }
-
-    /// Where the node is.
-    pub fn place(&self) -> Place
-        ensures phase { result.phase ≡ self.now.at.phase }
-        ensures member { result.member ≡ self.now.at.member }
-        ensures view { result.view ≡ self.now.at.view }
-        ensures id { result.id ≡ self.now.id }
-        ensures outbox { result.outbox ≡ length self.now.queue.outbox }
-    {
-        Place {
-            phase: self.at.phase,
-            member: self.at.member,
-            view: self.at.view,
-            id: self.id,
-            outbox: self.queue.outbox_len(),
-        }
-    }
-
-    /// The last number that the node has taken from the order.
-    pub fn taken(&self) -> u64
-        ensures { result ≡ self.now.at.taken }
-    {
-        self.at.taken
-    }
-
-    /// The last number that the node has certified.
-    pub fn certified(&self) -> u64
-        ensures { result ≡ self.now.at.certified }
-    {
-        self.at.certified
-    }
-
-    /// How far the node has committed.
-    pub fn committed(&self) -> u64
-        ensures { result ≡ self.now.at.committed }
-    {
-        self.at.committed
-    }
-
-    /// The committed row.
-    pub fn committed_row(&self, id: &RowId) -> Option<Row>
-        ensures { (order : List Event) → Stands order self.now
-            → result ≡ get (rows_at order self.now.at.committed) id.now }
-    {
-        self.rows.committed(id)
-    }
-
-    /// The committed rows, by table and then by row.
-    pub fn rows(&self) -> Result<RowList, NoMemory>
-        ensures { IfOk result
-            (λ list. (order : List Event) → Stands order self.now
-            → list ≡ row_items (rows_at order self.now.at.committed)) }
-    {
-        self.rows.walk()
     }
 }

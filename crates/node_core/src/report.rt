@@ -1,12 +1,12 @@
 ghost use Rattle.std.specs.Prelude.{List, IfOk, OnErr};
 
 use crate::answers::Reported;
-use crate::node::Node;
+use crate::node::NodeParts;
 use node_meaning::Phase;
 use order_event::Message;
 use wsrep_base::NoMemory;
 
-impl Node {
+impl NodeParts {
     ghost use Rattle.node_meaning.specs.Steps.{report_step};
     ghost use Rattle.node_core.specs.Answers.{reported_answer};
     ghost use Rattle.node_core.specs.Memory.{ReportWants};

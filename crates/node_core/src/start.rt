@@ -3,7 +3,7 @@ ghost use Rattle.std.specs.Option.{unwrap_or};
 ghost use Rattle.finite_map.specs.FiniteMap.{get};
 
 use crate::answers::Started;
-use crate::node::Node;
+use crate::node::NodeParts;
 use crate::ranges::{few_live, progress_in_range};
 use apply_unit::Task;
 use bf_abort::{abort, victims};
@@ -19,7 +19,7 @@ use undo_rows::Rows;
 use write_set::encode;
 use wsrep_base::{NoMemory, SessionList};
 
-impl Node {
+impl NodeParts {
     ghost use Rattle.key_sets.specs.Keys.{Keys};
     ghost use Rattle.certification.specs.Certifies.{changes_with};
     ghost use Rattle.order_event.specs.declared.event.Event.{Event};

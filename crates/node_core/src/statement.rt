@@ -4,7 +4,7 @@ ghost use Rattle.key_sets.specs.Keys.{one_key};
 ghost use Rattle.write_set.specs.Rules.{row_parts};
 ghost use Rattle.node_core.specs.Statement.{reply_after};
 
-use crate::node::Node;
+use crate::node::NodeParts;
 use crate::ranges::{change_in_range, place_in_range, progress_in_range};
 use crate::refusal::{Met, hindrance, row_reply};
 use client_trx::{Added, Trx};
@@ -15,7 +15,7 @@ use std::alloc::{AllocError, Global};
 use undo_rows::Rows;
 use wsrep_base::NoMemory;
 
-impl Node {
+impl NodeParts {
     ghost use Rattle.row_model.specs.Names.{place_fits};
     ghost use Rattle.write_set.specs.Rules.{parts_fit};
     ghost use Rattle.client_trx.specs.KeyedOps.{IsKeyOf};

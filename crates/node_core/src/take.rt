@@ -3,13 +3,13 @@ ghost use Rattle.std.specs.List.{find};
 ghost use Rattle.node_meaning.specs.Node.{is_connected};
 
 use crate::answers::Taken;
-use crate::node::Node;
+use crate::node::NodeParts;
 use bytes::Bytes;
 use node_meaning::Phase;
 use order_event::Event;
 use wsrep_base::NoMemory;
 
-impl Node {
+impl NodeParts {
     ghost use Rattle.order_event.specs.declared.event.Event.{Event as Ordered};
     ghost use Rattle.order_event.specs.Spelling.{HasFewMembers};
     ghost use Rattle.node_meaning.specs.Steps.{take_step, is_write, is_report, is_this_write};
