@@ -1,3 +1,4 @@
+pub mod CommitLaws
 pub mod MapLaws
 pub mod QueueLaws
 pub mod RisingLaws

@@ -21,7 +21,7 @@ both_true true b h = (tt, h)
 both_true false b h = absurd h
 
 module _ {X : Type 0} where
-  below_in : (p : ℕ) (es : List (ℕ × X)) (n : ℕ) (x : X) → T (below_all nat_cmp p es) → In (n, x) es → p < n
+  pub below_in : (p : ℕ) (es : List (ℕ × X)) (n : ℕ) (x : X) → T (below_all nat_cmp p es) → In (n, x) es → p < n
   below_in p [] n x h i = absurd i
   below_in p (e ∷ es) n x h (inl same) =
       let lower = lower_by p e.0 (nat_cmp p e.0) refl (both_true _ _ h).0 in

@@ -1,8 +1,9 @@
 ghost use Rattle.std.specs.Prelude.{◌≡◌, ◌<◌, ◌≤◌, length, take, OnOk, OnErr};
-ghost use Rattle.std.specs.List.{find};
+ghost use Rattle.std.specs.List.{find, list_any};
 ghost use Rattle.std.specs.Option.{option_copied};
 ghost use Rattle.order_event.specs.declared.event.Message.{Message};
 ghost use Rattle.node_parts.specs.Kinds.{is_kind, place};
+ghost use Rattle.node_parts.specs.Queue.{names_commit};
 ghost use Rattle.node_meaning.specs.Steps.{is_write, is_report, is_this_write, without_first};
 
 use bytes::Bytes;
@@ -10,6 +11,7 @@ use order_event::Message;
 use std::alloc::Global;
 use std::collections::VecDeque;
 use std::marker::Model;
+use write_set::commit_begin;
 use wsrep_base::NoMemory;
 
 /// Messages, oldest first.
@@ -46,7 +48,8 @@ impl Model for Queue {
 }
 
 impl Queue {
-    ghost use Rattle.node_parts.specs.Queue.{nothing_sent, oldest, queued, without_newest, all_queued, first_kept, moved, taken};
+    ghost use Rattle.node_meaning.specs.Leaving.{is_commit_of};
+    ghost use Rattle.node_parts.specs.Queue.{AreOfSets, messages_of, nothing_sent, oldest, queued, without_newest, all_queued, first_kept, moved, taken};
 
     /// Nothing was sent. It takes no memory.
     pub fn new(alloc: Global) -> Queue
@@ -115,6 +118,23 @@ impl Queue {
         (self.messages.len() - self.ordered) as u64
     }
 
+    /// Whether the commit of the transaction with this begin number was sent and is not taken, as
+    /// the bytes of the messages say. It takes no memory.
+    pub fn has_commit_of(&self, begin: u64) -> bool
+        ensures { AreOfSets self.now
+            → result ≡ list_any (is_commit_of begin) (messages_of self.now) }
+    {
+        commit_is_in(&self.messages, begin)
+    }
+
+    /// All messages go. It takes no memory.
+    pub fn clear(&mut self)
+        ensures { self.new ≡ nothing_sent }
+    {
+        self.messages.truncate(0);
+        self.ordered = 0;
+    }
+
     /// Whether these are the bytes of the oldest write set that is ordered and not taken.
     pub fn is_next_write(&self, body: &Bytes) -> bool
         ensures { result ≡ is_this_write body.now (find is_write self.now.ordered) }
@@ -180,5 +200,29 @@ fn is_kind(message: &Message, kind: MessageKind) -> bool
     match kind {
         MessageKind::Write => matches!(message, Message::Write(_)),
         MessageKind::Report => matches!(message, Message::Report(_)),
+    }
+}
+
+// Whether a message names the transaction with this begin number as the one that it commits.
+fn commit_is_in(messages: &VecDeque<Message>, begin: u64) -> bool
+    ensures { result ≡ list_any (names_commit begin) messages.now.items }
+{
+    for at in 0..messages.len() {
+        if names_commit(&messages[at], begin) {
+            return true;
+        }
+    }
+    false
+}
+
+fn names_commit(message: &Message, begin: u64) -> bool
+    ensures { result ≡ names_commit begin message.now }
+{
+    match message {
+        Message::Write(body) => match commit_begin(body.as_slice()) {
+            Some(named) => named == begin,
+            None => false,
+        },
+        Message::Report(_) => false,
     }
 }
