@@ -9,6 +9,7 @@ pub mod Hearing
 pub mod KeptFacts
 pub mod ImageCalls
 pub mod KillCalls
+pub mod LeaveCalls
 pub mod NewCalls
 pub mod NodeLaws
 pub mod PutLoop

@@ -2,6 +2,7 @@ pub mod Advancing
 pub mod Answers
 pub mod Certifying
 pub mod Client
+pub mod Leaving
 pub mod Memory
 pub mod Sending
 pub mod Stands

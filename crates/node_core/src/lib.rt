@@ -7,6 +7,7 @@ mod answers;
 mod certify;
 mod client;
 mod finish;
+mod leave;
 mod node;
 mod ranges;
 mod refusal;
