@@ -157,7 +157,7 @@ module _ (order : List Event) (old : NodeParts) (stands : Stands order old) wher
     pub note_told : (mid : NodeParts) → TakesUnit next old mid → (new : NodeParts) → AfterCommitter (committer_of mid.live next) next mid new
         → (told : Option Judged) (given : Option Note)
         → (Certifies order old.at.committed old.at.certified new.certification → next ≡ next → old.at.committed < old.at.certified
-            → told ≡ Some (judged_at order next))
+        → told ≡ Some (judged_at order next))
         → given ≡ option_map (noted next) told → given ≡ Some (note_at order next)
     note_told mid takes new after told given judged is =
         let same : new.certification ≡ old.certification =

@@ -27,7 +27,7 @@ use Rattle.node_meaning.specs.Facts.{Facts, own_body, sent_body}
 use Rattle.node_meaning.specs.Leaving.{is_commit_of, waits_in, where_untaken, told_at_leave, ended_where, leave_one, sessions_left, departed, left_node}
 use Rattle.node_meaning.proofs.EntryLaws.{in_from_get, get_from_in}
 use Rattle.node_laws.proofs.Leaving.{facts_left}
-use Rattle.node_core.specs.declared.node.Node.{Node}
+use Rattle.node_core.specs.declared.node.NodeParts.{NodeParts}
 use Rattle.node_core.specs.Leaving.{told_of, session_left}
 use Rattle.node_core.specs.Stands.{Stands, Tables, Does, Moves, quietly, plain_of}
 use Rattle.node_core.proofs.ClientCalls.{stands_by}
@@ -50,7 +50,7 @@ of_sets [] all = tt
 of_sets (message.Write body ∷ ms) all = (all.0, of_sets ms all.1)
 of_sets (message.Report number ∷ ms) all = (tt, of_sets ms all)
 
-pub sent_sets : (order : List Event) (node : Node) → Stands order node → AreOfSets node.queue
+pub sent_sets : (order : List Event) (node : NodeParts) → Stands order node → AreOfSets node.queue
 sent_sets order node st =
     of_sets (messages_of node.queue)
     (each_spells (filter_map (own_body node.at.member) (drop node.at.certified (take node.at.taken order)))
@@ -169,7 +169,7 @@ module _ (queue : List Message) where
       ap (λ b. where_untaken (list_any (is_commit_of b) queue)) named ∙ told_by t st is sent ∙ sym (ap (told_of queue) there)
 
 -- ---- one session in the parts of a node
-pub moves_idle : (node : Node) (s : ℕ) (queue : List Message) → None ≡ told_of queue (get node.live s)
+pub moves_idle : (node : NodeParts) (s : ℕ) (queue : List Message) → None ≡ told_of queue (get node.live s)
     → Moves (λ n. session_left queue n s) node node
 moves_idle node s queue none = record {
   plain = ap (ended_where (plain_of node) s) none;
@@ -178,7 +178,7 @@ moves_idle node s queue none = record {
   tables = λ order tables. tables;
 }
 
-pub moves_told : (old mid : Node) (s : ℕ) (queue : List Message) (reply : Reply) (waiting : FiniteMap nat_cmp Reply)
+pub moves_told : (old mid : NodeParts) (s : ℕ) (queue : List Message) (reply : Reply) (waiting : FiniteMap nat_cmp Reply)
     → Some reply ≡ told_of queue (get old.live s) → Moves (λ n. end_live n s) old mid
     → waiting ≡ insert mid.waiting s reply → Moves (λ n. session_left queue n s) old (record mid { waiting = waiting })
 moves_told old mid s queue reply waiting told moves put = record {
@@ -193,7 +193,7 @@ moves_told old mid s queue reply waiting told moves put = record {
 
 -- ---- all of them
 -- the sessions below this one have come to their turn
-pub record HasLeft (old new : Node) (s : ℕ) : Type 0 where
+pub record HasLeft (old new : NodeParts) (s : ℕ) : Type 0 where
   pub low : 1 ≤ s
   pub queue : new.queue ≡ old.queue
   pub rest : List (ℕ × Live)
@@ -203,7 +203,7 @@ pub record HasLeft (old new : Node) (s : ℕ) : Type 0 where
   pub certification : new.certification ≡ old.certification
   pub tables : (order : List Event) → Tables order old → Tables order new
 
-pub none_left : (node : Node) → HasSessions node.live → HasLeft node node 1
+pub none_left : (node : NodeParts) → HasSessions node.live → HasLeft node node 1
 unfolding sessions_left
 none_left node sessions = record {
   low = omega arith;
@@ -230,7 +230,7 @@ where_queued n s (Some r) = (refl, refl)
 same_queue : (p q : Queued) → p.ordered ≡ q.ordered → p.outbox ≡ q.outbox → p ≡ q
 same_queue p q ordered outbox i = record { ordered = ordered i; outbox = outbox i }
 
-pub more_left : (old mid new : Node) (s : ℕ) → HasLeft old mid s
+pub more_left : (old mid new : NodeParts) (s : ℕ) → HasLeft old mid s
     → Moves (λ n. session_left (messages_of mid.queue) n s) mid new → HasLeft old new (s + 1)
 more_left old mid new s so_far moves =
     let all = messages_of old.queue in
@@ -257,7 +257,7 @@ nothing_rests queue live s [] r past = refl
 nothing_rests queue live s (e ∷ es) r past =
     let t = r.there e.0 e.1 (inl refl) in let low = t.0 in let high = t.1 in absurd (omega (arith, low, high, past))
 
-pub all_left : (old new : Node) (s : ℕ) → HasLeft old new s → 33 ≤ s → Moves sessions_left old new
+pub all_left : (old new : NodeParts) (s : ℕ) → HasLeft old new s → 33 ≤ s → Moves sessions_left old new
 all_left old new s left past = record {
   plain = sym (ap (fold (leave_one (messages_of old.queue)) (plain_of new))
       (nothing_rests (messages_of old.queue) new.live s left.rest left.are past)) ∙ left.same;
@@ -283,7 +283,7 @@ departed_is : (n : ModelNode) → departed (sessions_left n) ≡ left_node n
 unfolding left_node
 departed_is n = refl
 
-pub has_departed : (old mid : Node) (queue : Queued) → Moves sessions_left old mid → queue ≡ nothing_sent
+pub has_departed : (old mid : NodeParts) (queue : Queued) → Moves sessions_left old mid → queue ≡ nothing_sent
     → Does (quietly left_node) old (record mid { at = record mid.at { phase = phase.Left }; queue = queue }) tt
 has_departed old mid queue moves empty order st =
     let new = record mid { at = record mid.at { phase = phase.Left }; queue = queue } in

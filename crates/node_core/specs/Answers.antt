@@ -14,6 +14,7 @@ use Rattle.node_core.specs.declared.answers.Started.TheVariants as started
 use Rattle.node_core.specs.declared.answers.Advanced.{Advanced}
 use Rattle.node_core.specs.declared.answers.Advanced.TheVariants as advanced
 use Rattle.node_core.specs.declared.answers.Reported.{Reported}
+use Rattle.node_core.specs.declared.answers.Status.{Status}
 use Rattle.node_core.specs.declared.answers.Reported.TheVariants as reported
 
 abbrev pub taken_answer : Taken → Answer
@@ -40,6 +41,9 @@ abbrev pub reported_answer : Reported → Answer
 reported_answer (reported.Sent number) = answer.Reported number
 reported_answer reported.Disconnected = answer.Disconnected
 reported_answer reported.NotSynced = answer.NotSynced
+
+abbrev pub status_answer : Status → Answer
+status_answer s = answer.Status s.taken s.certified s.committed s.floor s.index s.open_trx
 
 -- the task that a start gives is the unit's, with the images of the rows before it
 abbrev pub GivesTask : List Event → ℕ → Started → Type 0

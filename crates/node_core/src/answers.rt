@@ -55,6 +55,20 @@ pub enum Reported {
     NotSynced,
 }
 
+/// Where a node stands, and how much it keeps for certification.
+#[derive(Clone, Copy, Debug, PartialEq, Eq)]
+pub struct Status {
+    pub taken: u64,
+    pub certified: u64,
+    pub committed: u64,
+    /// The least report of the members: what saw less is stale.
+    pub floor: u64,
+    /// How many different kinds at parts the commits have that a write set may still be tested
+    /// against, or that are not committed.
+    pub index: u64,
+    pub open_trx: u64,
+}
+
 /// Where a node is.
 #[derive(Clone, Copy, Debug, PartialEq, Eq)]
 pub struct Place {

@@ -2,12 +2,12 @@ ghost use Rattle.std.specs.Prelude.{◌≡◌, ◌≤◌, false};
 ghost use Rattle.std.specs.List.{list_any};
 ghost use Rattle.finite_map.specs.FiniteMap.{get};
 
-use crate::node::Node;
+use crate::node::NodeParts;
 use client_trx::Status;
 use node_meaning::Phase;
 use row_model::Reply;
 
-impl Node {
+impl NodeParts {
     ghost use Rattle.node_meaning.specs.Node.{is_left};
     ghost use Rattle.node_meaning.specs.Leaving.{is_commit_of, left_node, sessions_left, where_untaken};
     ghost use Rattle.node_parts.specs.Queue.{AreOfSets, messages_of};
@@ -17,7 +17,7 @@ impl Node {
     /// The node leaves its group, and what it sent and did not take is lost to it. Its
     /// transactions end, but for those whose commit is taken, and their sessions are told so when
     /// they call next. It takes no memory.
-    pub fn leave(&mut self)
+    pub(crate) fn leave(&mut self)
         requires stands { IsStanding self.old }
         requires left { is_left self.old.at.phase ≡ false }
         ensures { Does (quietly left_node) self.old self.new tt }

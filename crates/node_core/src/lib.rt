@@ -14,8 +14,9 @@ mod refusal;
 mod report;
 mod start;
 mod statement;
+mod status;
 mod take;
 mod watched;
 
-pub use answers::{Advanced, Certified, Place, Reported, Started, Taken};
+pub use answers::{Advanced, Certified, Place, Reported, Started, Status, Taken};
 pub use watched::{Node, NodeOf};

@@ -3,7 +3,7 @@ ghost use Rattle.std.specs.Prelude.{◌≡◌, ◌≢◌, ◌≤◌, ◌<◌, �
 ghost use Rattle.std.specs.Option.{option_copied};
 ghost use Rattle.finite_map.specs.FiniteMap.{get};
 
-use crate::answers::{Advanced, Certified, Place, Reported, Started, Taken};
+use crate::answers::{Advanced, Certified, Place, Reported, Started, Status, Taken};
 use crate::node::NodeParts;
 use apply_unit::Done;
 use order_event::{Event, Message};
@@ -33,13 +33,15 @@ impl<W: Watcher> NodeOf<W> {
     ghost use Rattle.undo_rows.specs.RowTable.{row_items};
     ghost use Rattle.node_parts.specs.Queue.{oldest};
     ghost use Rattle.node_parts.specs.Units.{is_started};
-    ghost use Rattle.node_meaning.specs.Node.{start_node, rows_at, is_connected};
+    ghost use Rattle.node_meaning.specs.Node.{start_node, rows_at, is_connected, is_left};
+    ghost use Rattle.node_meaning.specs.Leaving.{left_node};
+    ghost use Rattle.node_meaning.specs.Status.{status_step};
     ghost use Rattle.node_meaning.specs.Client.{client};
     ghost use Rattle.node_meaning.specs.Steps.{sent_out, take_step, certify_step, start_step, finish_step, advance_step, report_step};
     ghost use Rattle.node_meaning.specs.Units.{unit_task};
     ghost use Rattle.wsrep_watch.specs.Heard.{EndsAt};
     ghost use Rattle.node_core.specs.declared.answers.Taken.TheVariants as taken;
-    ghost use Rattle.node_core.specs.Answers.{taken_answer, certified_answer, started_answer, GivesTask, advanced_answer, reported_answer};
+    ghost use Rattle.node_core.specs.Answers.{taken_answer, certified_answer, started_answer, GivesTask, advanced_answer, reported_answer, status_answer};
     ghost use Rattle.node_core.specs.Memory.{CallWants, TakeWants, CertifyWants, starts, StartWants, ReportWants};
     ghost use Rattle.node_core.specs.Stands.{IsStanding, Stands, Does, DoneOver, Unchanged, quietly, plain_of};
     ghost use Rattle.node_core.specs.Watching.{HasHeard, Hears, note_due, told_by};
@@ -208,6 +210,32 @@ impl<W: Watcher> NodeOf<W> {
         ensures watcher { self.new.watcher ≡ self.old.watcher }
     {
         self.parts.report()
+    }
+
+    /// Where the node stands, and how much it keeps for certification. It takes no memory.
+    pub fn status(&self) -> Status
+        requires stands { IsStanding self.now.parts }
+        ensures { (order : List Ordered) → Stands order self.now.parts
+            → status_answer result ≡ (status_step order (plain_of self.now.parts)).0 }
+    {
+        self.parts.status()
+    }
+
+    /// The node leaves its group, and what it sent and did not take is lost to it. Its
+    /// transactions end, but for those whose commit is taken, and their sessions are told so when
+    /// they call next. The watcher comes back, which was told that it ends where the node has
+    /// committed; None exactly where the node has none. It takes no memory.
+    pub fn leave(&mut self) -> Option<W>
+        requires stands { IsStanding self.old.parts }
+        requires left { is_left self.old.parts.at.phase ≡ false }
+        ensures does { Does (quietly left_node) self.old.parts self.new.parts tt }
+        ensures gone { self.new.watcher ≡ None }
+        ensures there { is_some result ≡ is_some self.old.watcher }
+        ensures notes { told_by W.notes result ≡ told_by W.notes self.old.watcher }
+        ensures end { EndsAt self.new.parts.at.committed (told_by W.end result) }
+    {
+        self.parts.leave();
+        self.end_watch()
     }
 
     /// The watcher, which is told that it ends where the node has committed; None exactly where

@@ -1,6 +1,6 @@
 use Rattle.node_parts.specs.Queue.{messages_of}
 use Rattle.node_core.proofs.LeaveCalls.{moves_idle, moves_told}
-use Rattle.node_core.proofs.node.Node.end_at_leave.Goals as goal
+use Rattle.node_core.proofs.node.NodeParts.end_at_leave.Goals as goal
 
 pub returns-in-Some : goal.returns-in-Some
 returns-in-Some c =

@@ -1,5 +1,5 @@
 use Rattle.node_core.proofs.LeaveCalls.{sent_sets, has_departed}
-use Rattle.node_core.proofs.node.Node.leave.Goals as goal
+use Rattle.node_core.proofs.node.NodeParts.leave.Goals as goal
 
 pub end_sessions-requires : goal.end_sessions-requires
 end_sessions-requires c = record { sets = sent_sets c.requires.stands.0 c.args.self.now c.requires.stands.1 }

@@ -1,5 +1,5 @@
 use Rattle.node_core.proofs.LeaveCalls.{HasLeft}
-use Rattle.node_core.proofs.node.Node.end_sessions.Given as goal
+use Rattle.node_core.proofs.node.NodeParts.end_sessions.Given as goal
 
 -- the sessions before are told
 abbrev pub invariant-loop-session : goal.invariant-loop-session

@@ -1,6 +1,6 @@
 use Rattle.std.proofs.Common.{arith}
 use Rattle.node_core.proofs.LeaveCalls.{none_left, more_left, all_left}
-use Rattle.node_core.proofs.node.Node.end_sessions.Goals as goal
+use Rattle.node_core.proofs.node.NodeParts.end_sessions.Goals as goal
 
 pub loop-session-init : goal.loop-session-init
 loop-session-init c = none_left c.args.self.now c.session_end-session-end.ensures.sessions

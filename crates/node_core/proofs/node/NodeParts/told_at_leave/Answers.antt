@@ -1,7 +1,7 @@
 use Rattle.std.proofs.Common.{◌∙◌, sym}
 use Rattle.node_parts.specs.Queue.{messages_of}
 use Rattle.node_core.proofs.LeaveCalls.{told_sent}
-use Rattle.node_core.proofs.node.Node.told_at_leave.Goals as goal
+use Rattle.node_core.proofs.node.NodeParts.told_at_leave.Goals as goal
 
 pub returns-in-CommitSent : goal.returns-in-CommitSent
 returns-in-CommitSent c =
