@@ -19,7 +19,7 @@ impl NodeParts {
     ghost use Rattle.node_core.specs.Stands.{IsStanding, Stands, Does, Unchanged, Moves, plain_of};
 
     /// Certifies the next event that was taken, and tells the transaction that sent it.
-    pub fn certify(&mut self) -> Result<Certified, NoMemory>
+    pub(crate) fn certify(&mut self) -> Result<Certified, NoMemory>
         requires stands { IsStanding self.old }
         ensures ok { IfOk result
             (λ r. Does (λ order n. certify_step order n) self.old self.new (certified_answer r)) }

@@ -25,11 +25,8 @@ impl NodeParts {
     ghost use Rattle.node_core.specs.Memory.{CallWants};
     ghost use Rattle.node_core.specs.Stands.{IsStanding, Stands, Does, Unchanged, Moves, plain_of};
 
-    /// What a session, 1 to 32, is answered when it makes a call. An answer that waits, and one
-    /// that comes before the table of calls, takes no memory; nor do `read`, `poll`, a begin within
-    /// a transaction, a statement or a commit without one, a commit of nothing, and a `rollback`
-    /// where no fragment was ever sent.
-    pub fn client(&mut self, session: u8, call: &Call) -> Result<Reply, NoMemory>
+    /// An answer that waits, then the rules before the table of calls, then the table.
+    pub(crate) fn client(&mut self, session: u8, call: &Call) -> Result<Reply, NoMemory>
         requires stands { IsStanding self.old }
         requires session { (1 ≤ session) × (session ≤ 32) }
         requires names { IsTrue (call_fits call.now) }

@@ -13,7 +13,7 @@ impl NodeParts {
     ghost use Rattle.node_core.specs.Stands.{IsStanding, Stands, Does};
 
     /// Takes the work of a started unit. The value comes back where its number is no such unit.
-    pub fn finish(&mut self, done: Done) -> Result<u64, Done>
+    pub(crate) fn finish(&mut self, done: Done) -> Result<u64, Done>
         requires work { (order : List Event) → Stands order self.old
             → IsTrue (is_started (get self.old.units.units done.number))
             → done ≡ unit_task order done.number }

@@ -1,20 +1,17 @@
 ghost use Rattle.std.specs.Prelude.{◌≡◌, ◌≢◌, ◌≤◌, ◌<◌, List, length, IfOk};
-ghost use Rattle.std.specs.Option.{option_copied};
-ghost use Rattle.finite_map.specs.FiniteMap.{get};
 
-use crate::answers::Place;
 use certification::Certification;
 use client_trx::Trx;
 use node_meaning::{Phase, Progress};
 use node_parts::{Inbox, Queue, Slots, Units};
-use order_event::Message;
 use row_locks::LockTable;
-use row_model::{Reply, Row, RowId, RowList};
+use row_model::Reply;
 use std::alloc::Global;
-use undo_rows::{Overlay, Rows};
+use undo_rows::Overlay;
 use wsrep_base::{NoMemory, StateId};
 
-/// A node. Each part has its own contract; what it stands for as a whole is told over an order.
+/// What a node is but for its watcher. Each part has its own contract; what it stands for as a
+/// whole is told over an order. Its calls are those of a node.
 #[derive(Drop)]
 pub struct NodeParts {
     pub(crate) alloc: Global,
@@ -36,15 +33,17 @@ pub struct NodeParts {
 impl NodeParts {
     ghost use Rattle.wsrep_base.specs.StateId.{nil_id};
     ghost use Rattle.order_event.specs.declared.event.Event.{Event};
-    ghost use Rattle.undo_rows.specs.RowTable.{row_items};
-    ghost use Rattle.node_parts.specs.Queue.{oldest};
-    ghost use Rattle.node_meaning.specs.Node.{start_node, rows_at};
+    ghost use Rattle.node_meaning.specs.Node.{start_node};
     ghost use Rattle.node_meaning.specs.Steps.{sent_out};
-    ghost use Rattle.node_core.specs.Stands.{IsStanding, Stands, Does, quietly, plain_of};
+    ghost use Rattle.node_core.specs.Stands.{Stands, Does, quietly, plain_of};
 
-    /// A node at its start, connected, with this state id and member number. The size of the ring
-    /// of events, in bytes, is not used yet.
-    pub fn new(alloc: Global, id: StateId, member: u32, _gcache: u64) -> Result<NodeParts, NoMemory>
+    /// At its start, connected. The size of the ring of events is not used yet.
+    pub(crate) fn new(
+        alloc: Global,
+        id: StateId,
+        member: u32,
+        _gcache: u64,
+    ) -> Result<NodeParts, NoMemory>
         requires id { id ≢ nil_id }
         requires ring { _gcache ≤ 16_777_216 }
         ensures start { IfOk result (λ node. plain_of node ≡ start_node id member) }
@@ -74,8 +73,8 @@ impl NodeParts {
         })
     }
 
-    /// The oldest message that waits counts as ordered.
-    pub fn sent_out(&mut self)
+    /// The oldest message that waits is ordered.
+    pub(crate) fn sent_out(&mut self)
         requires { 0 < length self.old.queue.outbox }
         ensures { Does (quietly sent_out) self.old self.new tt }
     {

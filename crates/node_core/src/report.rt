@@ -12,9 +12,8 @@ impl NodeParts {
     ghost use Rattle.node_core.specs.Memory.{ReportWants};
     ghost use Rattle.node_core.specs.Stands.{Does, Unchanged, plain_of};
 
-    /// Reports what the node has committed: a report of it waits to be ordered. Only that takes
-    /// memory.
-    pub fn report(&mut self) -> Result<Reported, NoMemory>
+    /// A report of what is committed waits to be ordered, where the node may send one.
+    pub(crate) fn report(&mut self) -> Result<Reported, NoMemory>
         ensures ok { IfOk result
             (λ r. Does (λ order n. report_step n) self.old self.new (reported_answer r)) }
         ensures err { OnErr result (Unchanged self.old self.new) }

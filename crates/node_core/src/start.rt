@@ -31,10 +31,8 @@ impl NodeParts {
     ghost use Rattle.node_core.specs.Memory.{starts, StartWants};
     ghost use Rattle.node_core.specs.Starting.{CanStart, IsStartable, IsRefused, IsStartedOver, unit_started, with_sent, rollback_message, entered, Aborts};
 
-    /// Starts the unit of the passed commit with this number: the transactions whose locks touch
-    /// it are aborted, and a rollback is sent for each that ends and ever sent a fragment. All
-    /// memory is taken first; a unit that cannot start yet takes none.
-    pub fn start(&mut self, number: u64) -> Result<Started, NoMemory>
+    /// Starts the unit of the passed commit with this number. All memory is taken first.
+    pub(crate) fn start(&mut self, number: u64) -> Result<Started, NoMemory>
         requires stands { IsStanding self.old }
         requires serial { self.old.at.serial < 2 ^ 63 }
         ensures ok { IfOk result
@@ -54,8 +52,8 @@ impl NodeParts {
         self.start_unit(number, keys)
     }
 
-    /// Whether the unit of the passed commit with this number can start now. It takes no memory.
-    pub fn can_start(&self, number: u64) -> bool
+    /// Whether the unit of the passed commit with this number can start now.
+    pub(crate) fn can_start(&self, number: u64) -> bool
         ensures { (order : List Event) → Stands order self.now
             → result ≡ starts order (plain_of self.now) number }
     {

@@ -21,7 +21,7 @@ impl NodeParts {
     ghost use Rattle.node_core.specs.Taking.{taken_own, took_with};
 
     /// Takes the next event of the order, which is this one.
-    pub fn take(&mut self, event: &Event) -> Result<Taken, NoMemory>
+    pub(crate) fn take(&mut self, event: &Event) -> Result<Taken, NoMemory>
         requires stands { IsStanding self.old }
         requires number { self.old.at.taken < 2 ^ 63 }
         requires members { HasFewMembers event.now }
@@ -55,8 +55,8 @@ impl NodeParts {
         }
     }
 
-    /// Whether the node is connected. One that is not takes nothing.
-    pub fn is_connected(&self) -> bool
+    /// Whether the node is connected.
+    pub(crate) fn is_connected(&self) -> bool
         ensures { result ≡ is_connected self.now.at.phase }
     {
         is_connected(self.at.phase)
