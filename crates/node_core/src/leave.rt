@@ -14,9 +14,8 @@ impl NodeParts {
     ghost use Rattle.node_core.specs.Leaving.{told_of, session_left};
     ghost use Rattle.node_core.specs.Stands.{IsStanding, Does, Moves, quietly};
 
-    /// The node leaves its group, and what it sent and did not take is lost to it. Its
-    /// transactions end, but for those whose commit is taken, and their sessions are told so when
-    /// they call next. It takes no memory.
+    /// The node leaves its group: its transactions end, but for those whose commit is taken, and
+    /// what it sent and did not take is lost to it.
     pub(crate) fn leave(&mut self)
         requires stands { IsStanding self.old }
         requires left { is_left self.old.at.phase ≡ false }

@@ -223,8 +223,8 @@ impl<W: Watcher> NodeOf<W> {
 
     /// The node leaves its group, and what it sent and did not take is lost to it. Its
     /// transactions end, but for those whose commit is taken, and their sessions are told so when
-    /// they call next. The watcher comes back, which was told that it ends where the node has
-    /// committed; None exactly where the node has none. It takes no memory.
+    /// they call next. Its watcher comes back, told that it ends where the node has committed;
+    /// None exactly where the node has none. It takes no memory.
     pub fn leave(&mut self) -> Option<W>
         requires stands { IsStanding self.old.parts }
         requires left { is_left self.old.parts.at.phase ≡ false }
