@@ -29,46 +29,7 @@ in_other = ((refl, refl), omega arith, omega arith, (omega arith, tt))
 
 leaving_fits : LeavingFits
 unfolding computing_answers
-leaving_fits = (
-  tt,
-  (
-    (refl, tt),
-    (
-      (refl, in_row),
-      (
-        (refl, tt),
-        (
-          tt,
-          (
-            (refl, tt),
-            (
-              (refl, tt),
-              (
-                (refl, in_change),
-                (
-                  (refl, tt),
-                  (
-                    (refl, tt),
-                    (
-                      (refl, in_other),
-                      (
-                        tt,
-                        (
-                          (refl, tt),
-                          ((refl, tt), ((refl, tt), (tt, tt))),
-                        ),
-                      ),
-                    ),
-                  ),
-                ),
-              ),
-            ),
-          ),
-        ),
-      ),
-    ),
-  ),
-)
+leaving_fits = search (in_row, in_change, in_other)
 
 leaving_tells : LeavingTells
 unfolding computing_answers
