@@ -11,4 +11,5 @@ names_row id op = row_eq (id_of op) id
 
 -- the row after those of the changes that name it, in order
 abbrev pub row_after_ops : RowId → List Op → Option (List ℕ) → Option (List ℕ)
-row_after_ops id ops old = fold (λ row op. if names_row id op then row_after row op else row) old ops
+row_after_ops id ops old =
+    fold (λ row op. if names_row id op then row_after row op else row) old ops

@@ -27,7 +27,8 @@ abbrev pub task : ℕ → List Op → List Image → ModelTask
 task number ops images = record { number = number; ops = ops; images = images }
 
 -- the rows of the images are listed, and what is to become the results is the images
-pub record IsReady (ops : List Op) (images : List Image) (places : List RowId) (results : List Image) : Type 0 where
+pub record IsReady (ops : List Op) (images : List Image) (places : List RowId)
+    (results : List Image) : Type 0 where
   pub images_are : AreImagesOf ops images
   pub places_are : places ≡ keys_of images
   pub results_are : results ≡ images
