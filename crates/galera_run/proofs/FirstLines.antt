@@ -70,7 +70,7 @@ refusal_first input u v w n c t k =
     (subst (Appends u w) (refused_text told.text (ending_of told.reached) n c t.ending) (Appends-kept u v w (run_of input).text t.written k))
 
 -- ---- the whole lines of some first bytes are first lines
-whole_first : (begun bytes rest : List ℕ) →
+pub whole_first : (begun bytes rest : List ℕ) →
     take (length (lines_to no_line begun bytes)) (lines_to last_line begun (bytes ++ rest)) ≡ lines_to no_line begun bytes
 whole_first begun [] rest = refl
 whole_first begun (b ∷ bytes) rest =

@@ -64,7 +64,7 @@ header_id (cluster ∷ k ∷ gcache ∷ b ∷ id ∷ u ∷ []) =
     chained_by (λ i. i ≢ nil_id) HasId (id_of u) _ (id_is u) (λ state some. some))))
 header_id (cluster ∷ k ∷ gcache ∷ b ∷ id ∷ u ∷ word ∷ words) = tt
 
-judged_some : {X : Type 0} (within : X → Bool) (o : Option X) (x : X) → judged within o ≡ Ok x → o ≡ Some x
+pub judged_some : {X : Type 0} (within : X → Bool) (o : Option X) (x : X) → judged within o ≡ Ok x → o ≡ Some x
 judged_some within None x e = absurd cc
 judged_some within (Some y) x e = by_within (within y) e
   where

@@ -308,7 +308,7 @@ followed_first p line lines (Ok (None, next)) (inr h) later =
     (reaches_all h.header.nodes lines next (cluster_of h.header) h.state)
 followed_first p line lines (Ok (Some answer, next)) h later = absurd h
 
-runs_through : (lines : List (List ℕ)) → RunsThroughAll lines
+pub runs_through : (lines : List (List ℕ)) → RunsThroughAll lines
 runs_through [] p early = record { text_is = refl; state = early.state; number_is = omega arith }
 runs_through (line ∷ lines) p early = followed_first p line lines (line_at p line) (first_goes p line early) (runs_through lines)
 

@@ -6,5 +6,7 @@ pub mod Outcome
 pub mod Program
 pub mod Schedules
 pub mod Load
+pub mod Headline
+pub mod Replicated
 pub mod Words
 pub mod Args

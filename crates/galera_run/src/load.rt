@@ -4,6 +4,7 @@ ghost use Rattle.script_text.specs.Steps.{IsRunnable};
 ghost use Rattle.report_text.specs.Load.{counts_of};
 ghost use Rattle.galera_run.specs.Feeding.{PrintStops, HasWriteCause};
 ghost use Rattle.galera_run.specs.Load.{load_start, load_run, load_summary, nodes_sum, TellsLoad, IsWithin, IsStepped, IsDone};
+ghost use Rattle.galera_run.specs.Replicated.{LoadReplicates};
 
 use crate::fault::{Finished, RunFault};
 use crate::print::print_lines;
@@ -26,6 +27,7 @@ const ID: [u8; 16] = [0, 0, 0, 0, 0, 0, 0, 0, 0, 0, 0, 0, 0, 0, 0, 161];
 
 /// Runs the workload of so many transactions, which are drawn from the seed, on three nodes, and
 /// prints its summary. Nothing is written before all of it was run.
+#[tactic(auto, using(crate::proofs::Completeness::load_replicates))]
 pub fn run_load<K: Sink>(
     alloc: Global,
     seed: u64,
@@ -37,6 +39,8 @@ pub fn run_load<K: Sink>(
     ensures err { IfErr result
         (PrintStops (K.written out.old) (K.written out.new) (load_summary seed count)) }
     ensures cause { HasWriteCause (K.faults out.old) (K.faults out.new) result }
+    // The run whose summary is written is right.
+    ensures right { LoadReplicates seed count }
 {
     match summary(alloc, seed, count) {
         Ok((text, done)) => match print_lines(text.as_slice(), out) {

@@ -18,7 +18,7 @@ mod workload;
 
 use args::words_of;
 pub use fault::{Finished, RunFault};
-pub use laws::run_laws;
+pub use laws::{right_laws, run_laws};
 pub use load::run_load;
 use outside_io::{StdSink, StdSource};
 pub use program::galera_steps;

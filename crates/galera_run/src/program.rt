@@ -3,6 +3,7 @@ ghost use Rattle.std.specs.Io.KnownBytes.{Appends, Keeps};
 ghost use Rattle.galera_run.specs.Writing.{AppendsFront};
 ghost use Rattle.galera_run.specs.Words.{IsSteps, is_load, load_asked, HasCount};
 ghost use Rattle.galera_run.specs.Program.{refusal_text, cause_text, HasCauses, EndsAs, IsNoCommand, EndsUsage, TellsAsked, CutsAsked, TellsEnd, TellsLines, TellsRefused, TellsUnread, CutsRun};
+ghost use Rattle.galera_run.specs.Replicated.{WritesRight, AskedReplicates, StepsEndWhole, LoadEndsWhole};
 
 use crate::fault::RunFault;
 use crate::load::run_load;
@@ -56,6 +57,17 @@ pub fn galera_steps<S: Source, K: Sink>(
         × TellsLines (S.left input.old) (K.written out.old) (K.written out.new))
         ⊎ (IsTrue (is_load (map string_bytes words.now))
         × Keeps (K.written out.old) (K.written out.new)) }
+    // The run whose text went out is right, and so is that of a workload.
+    ensures right { (IsSteps (map string_bytes words.now)
+        → WritesRight (result ≡ 0) (S.left input.old) (K.written out.old) (K.written out.new))
+        × AskedReplicates (load_asked (map string_bytes words.now)) }
+    // Where no count of faults rose, an input within the grammar and the limits ends with its whole
+    // text or for want of memory, and so does a workload.
+    ensures whole { (IsSteps (map string_bytes words.now)
+        → StepsEndWhole result (S.left input.old) (K.written out.old) (K.written out.new)
+        (S.faults input.old) (S.faults input.new) (K.faults out.old) (K.faults out.new))
+        × LoadEndsWhole result (load_asked (map string_bytes words.now)) (K.written out.old)
+        (K.written out.new) (K.faults out.old) (K.faults out.new) }
 {
     if is_steps(words) {
         return do_steps(alloc, input, out);

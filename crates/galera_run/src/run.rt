@@ -1,7 +1,8 @@
-ghost use Rattle.std.specs.Prelude.{◌≡◌, ◌<◌, true, false, length, IsTrue, OnOk, IfOk, IfErr};
+ghost use Rattle.std.specs.Prelude.{◌≡◌, ◌<◌, true, false, length, IsTrue, IfSome, OnOk, IfOk, IfErr};
 ghost use Rattle.std.specs.Io.KnownBytes.{IsAtEnd};
 ghost use Rattle.galera_run.specs.Feeding.{IsSound, Reads, ReadStops, HasReadCause, HasWriteCause, read_count};
 ghost use Rattle.galera_run.specs.Outcome.{RunTells, RunStops};
+ghost use Rattle.galera_run.specs.Replicated.{TellsRight, BeginsRight};
 
 use crate::fault::{Finished, RunFault};
 use crate::finish::finish;
@@ -28,6 +29,11 @@ pub fn run_steps<S: Source, K: Sink>(
         (RunStops (S.left input.old) (S.left input.new) (K.written out.old) (K.written out.new)) }
     ensures read { HasReadCause (S.faults input.old) (S.faults input.new) result }
     ensures write { HasWriteCause (K.faults out.old) (K.faults out.new) result }
+    // The run whose text was written is right, and so is that of the lines before a stop.
+    ensures right { OnOk result (IfSome (S.left input.old)
+        (λ bytes. TellsRight bytes (K.written out.old) (K.written out.new))) }
+    ensures begins { IfSome (S.left input.old)
+        (λ bytes. BeginsRight bytes (K.written out.old) (K.written out.new)) }
 {
     let mut script = Script {
         place: Place {
