@@ -27,7 +27,6 @@ const ID: [u8; 16] = [0, 0, 0, 0, 0, 0, 0, 0, 0, 0, 0, 0, 0, 0, 0, 161];
 
 /// Runs the workload of so many transactions, which are drawn from the seed, on three nodes, and
 /// prints its summary. Nothing is written before all of it was run.
-#[tactic(auto, using(crate::proofs::Completeness::load_replicates))]
 pub fn run_load<K: Sink>(
     alloc: Global,
     seed: u64,

@@ -1,4 +1,4 @@
-use Rattle.std.proofs.Common.{◌≡◌, rules, map, string_bytes, sym, ◌∙◌, inr, refl}
+use Rattle.std.proofs.Common.{rules, map, string_bytes, sym, ◌∙◌, inr, refl}
 use Rattle.galera_run.specs.Words.{IsSteps, load_asked}
 use Rattle.galera_run.proofs.Askings.{asked_first, steps_cut}
 use Rattle.galera_run.proofs.Completeness.{steps_end_whole, asked_ends_whole, wanting_whole, none_whole, asked_replicates, steps_ask_none}

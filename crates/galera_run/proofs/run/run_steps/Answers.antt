@@ -1,3 +1,4 @@
+use Rattle.std.specs.Prelude.{Err}
 use Rattle.galera_run.proofs.Endings.{if_ok_map, if_err_map}
 use Rattle.galera_run.proofs.Sources.{run_tells, run_ends, run_stops, reads_first, stops_first}
 use Rattle.galera_run.proofs.RightStatuses.{ok_right, run_begins}
