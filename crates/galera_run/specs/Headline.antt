@@ -27,7 +27,8 @@ use Rattle.cluster_core.specs.State.{end_at, end_rows}
 
 -- ---- the rows of the one fold
 -- behind the first n events: the changes of the commits that passed, in their order, on no rows.
--- The changes of a commit are those of its transaction's fragments and then its own
+-- The changes of a commit are those of its transaction's fragments and then its own; so nothing of a
+-- fragment is there before its transaction commits, nor where it never does
 abbrev pub committed_rows : List Event → ℕ → Rows
 committed_rows order n =
     ops_on (flat_map (λ (c : CommitItem). ops_at order c.number) (state_at order n).commits) empty
@@ -84,7 +85,7 @@ pub record Replicates (start : ModelCluster) (steps : List Step) : Type 0 where
   -- and that is what their calls were answered
   pub told : (i : ℕ) → map (λ (t : Told). t.answer) (told_run start i empty steps)
       ≡ replies i steps (run steps start).0
-  -- all nodes judge an event alike, as the one fold does
+  -- every verdict that is told is that of the one fold, so all nodes judge an event alike
   pub verdicts : AllByRecursion (IsOfFold (run steps start).1.order) (run steps start).0
   -- behind each step, the k-th, each node shows the committed rows
   pub moments : (k i : ℕ) (n : ModelNode)
@@ -96,7 +97,7 @@ pub record Replicates (start : ModelCluster) (steps : List Step) : Type 0 where
       × (end_rows (run steps start).1 (suc i)
       ≡ row_items (committed_rows (run steps start).1.order n.at.committed))
 
--- every run does, of at most 2^32 nodes and 2^63 steps, whose calls have names in their form and
+-- every run does, of fewer than 2^32 nodes and 2^63 steps, whose calls have names in their form and
 -- values in range
 abbrev pub RunsReplicate : Type 0
 RunsReplicate =
