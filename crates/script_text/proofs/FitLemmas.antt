@@ -196,7 +196,9 @@ verb_fits (verb ∷ words) =
     (chosen Acted (verb is "finish") _ _ (of_number act.Finish (λ n. (refl, tt)))
     (chosen Acted (verb is "advance") _ _ (alone_is Acted act.Advance words (refl, tt))
     (chosen Acted (verb is "report") _ _ (alone_is Acted act.Report words (refl, tt))
-    (chosen Acted (verb is "drain") _ _ (alone_is Acted act.Drain words (refl, tt)) tt)))))))
+    (chosen Acted (verb is "status") _ _ (alone_is Acted act.Status words (refl, tt))
+    (chosen Acted (verb is "drain") _ _ (alone_is Acted act.Drain words (refl, tt))
+    (chosen Acted (verb is "leave") _ _ (alone_is Acted act.Leave words (refl, tt)) tt)))))))))
   where
     of_number : (f : ℕ → Act) → ((n : ℕ) → Acted (f n)) → IfSome (option_map f (only_number words)) Acted
     of_number f made = mapped (λ n. Unit {0}) Acted (only_number words) f (anything (only_number words)) (λ n any. made n)
