@@ -3,6 +3,6 @@ pub mod Certifying
 pub mod Changes
 pub mod Needed
 pub mod Verdicts
-pub mod Counts
-pub mod Entering
 pub mod Status
+pub mod Pairs
+pub mod Counted

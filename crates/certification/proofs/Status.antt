@@ -1,11 +1,11 @@
 -- What a status tells of the state that is certified.
-use Rattle.std.proofs.Common.{◌≡◌, ℕ, ◌≤◌, ◌<◌, Bool, true, false, cond, List, [], ◌∷◌, length, ap, sym, subst, ◌∙◌, arith}
+use Rattle.std.proofs.Common.{◌≡◌, ◌+◌, ℕ, ◌≤◌, ◌<◌, Bool, true, false, cond, List, [], ◌∷◌, length, ap, sym, ◌∙◌, arith}
 use Rattle.std.specs.Prelude.{min, nat_lt, flat_map}
 use Rattle.finite_map.specs.FiniteMap.{len}
 use Rattle.key_sets.specs.Keys.{pairs_of}
 use Rattle.order_event.specs.declared.event.Event.{Event}
 use Rattle.cert_meaning.specs.declared.items.CommitItem.{CommitItem}
-use Rattle.cert_meaning.specs.State.{FoldState, RiseWithin, Rise}
+use Rattle.cert_meaning.specs.State.{FoldState, RiseWithin}
 use Rattle.cert_meaning.specs.Fold.{state_at}
 use Rattle.cert_meaning.proofs.CommitLaws.{commits-rise}
 use Rattle.node_meaning.specs.Status.{each_once, pairs_above, index_count}
@@ -27,6 +27,11 @@ rise_above to least most [] rise = tt
 rise_above to least most (c ∷ cs) rise =
     rise_one least most c (commits_above to cs) (nat_lt to c.number) rise.0 rise.1 (rise_above to c.number most cs rise.2)
 
+-- rising commits are not more than the numbers that they may have
+rise_few : (least most : ℕ) (commits : List CommitItem) → least ≤ most → RiseWithin least most commits → least + length commits ≤ most
+rise_few least most [] fits rise = omega (arith, fits)
+rise_few least most (c ∷ cs) fits rise = let rest = rise_few c.number most cs rise.1 rise.2 in omega (arith, rest, rise.0)
+
 module _ (order : List Event) (committed certified : ℕ) (c : ModelCertification) (is : Certifies order committed certified c) where
   abbrev s : FoldState
   s = state_at order certified
@@ -47,8 +52,13 @@ module _ (order : List Event) (committed certified : ℕ) (c : ModelCertificatio
         ∙ ap (λ (q : FoldState). commits_above above q.commits) is.state
         ∙ above_both c.dropped above low s.commits
 
-    pub they_rise : Rise (commits_above above c.state.commits)
-    they_rise = (certified, subst (RiseWithin 0 certified) (sym same_above) (rise_above above 0 certified s.commits (commits-rise order certified is.within)))
+    pub commits_few : length (commits_above above c.state.commits) ≤ certified
+    commits_few =
+        let same = ap length same_above in
+        let few =
+        rise_few 0 certified (commits_above above s.commits) (omega arith)
+        (rise_above above 0 certified s.commits (commits-rise order certified is.within)) in
+        omega (arith, same, few)
 
     pub entries-are : length (each_once (pairs_above above c.state.commits)) ≡ index_count s committed
     unfolding index_count

@@ -1,1 +1,2 @@
 pub mod Certifies
+pub mod Counting

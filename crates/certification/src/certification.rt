@@ -1,4 +1,4 @@
-ghost use Rattle.std.specs.Prelude.{◌≡◌, ◌≤◌, ◌+◌, ◌<◌, ℕ, List, Some, slice_get, IfOk, OnErr};
+ghost use Rattle.std.specs.Prelude.{◌≡◌, ◌≤◌, ◌+◌, ◌-◌, ◌^◌, ◌<◌, ℕ, min, List, Some, slice_get, IfOk, OnErr};
 ghost use Rattle.std.specs.Option.{option_copied};
 ghost use Rattle.order_event.specs.declared.event.Event.{Event as Ordered};
 ghost use Rattle.finite_map.specs.FiniteMap.{len};
@@ -6,7 +6,7 @@ ghost use Rattle.cert_meaning.specs.Fold.{set_in, state_at};
 ghost use Rattle.node_meaning.specs.Status.{index_count};
 ghost use Rattle.node_meaning.specs.Units.{judged_at};
 ghost use Rattle.node_parts.specs.Passed.{AllBefore};
-ghost use Rattle.certification.specs.Certifies.{Certifies, IsCertifying, CanCertify, IsNext, commit_with, touching_between, holder_of, changes_with, with_changes};
+ghost use Rattle.certification.specs.Certifies.{Certifies, CanCertify, IsNext, commit_with, touching_between, holder_of, changes_with, with_changes};
 
 use crate::counting::count_above;
 use cert_meaning::{CommitItem, FoldState};
@@ -154,15 +154,19 @@ impl Certification {
     }
 
     /// How many different kinds at parts the commits have that a write set may still be tested
-    /// against, or that are not committed. It costs all commits, and the memory of an index.
-    pub fn entries(&self, committed: u64) -> Result<u64, NoMemory>
-        requires { IsCertifying committed self.now }
-        ensures { IfOk result (λ count. (order : List Ordered) (certified : ℕ)
+    /// against, or that are not committed; the greatest number that there is, where there are
+    /// more, which takes more than 2 ^ 51 events. It compares each of their keys with those behind
+    /// it, and takes no memory.
+    pub fn entries(&self, committed: u64) -> u64
+        ensures exact { (order : List Ordered) (certified : ℕ)
+            → Certifies order committed certified self.now → certified < 2 ^ 51
+            → result ≡ index_count (state_at order certified) committed }
+        ensures capped { (order : List Ordered) (certified : ℕ)
             → Certifies order committed certified self.now
-            → count ≡ index_count (state_at order certified) committed) }
+            → result ≡ min (index_count (state_at order certified) committed) (2 ^ 64 - 1) }
     {
         let above = self.state.floor().min(committed);
-        count_above(*self.verdicts.allocator(), above, self.state.commits())
+        count_above(above, self.state.commits())
     }
 }
 

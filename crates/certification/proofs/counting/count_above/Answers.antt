@@ -1,23 +1,22 @@
--- The commits are entered in their order, and each kind at parts is counted once.
-use Rattle.std.proofs.Common.{◌∙◌, sym, subst, ap}
-use Rattle.std.proofs.lemmas.List.{take_all}
-use Rattle.cert_index.specs.Index.{entered, AreUpTo}
-use Rattle.certification.specs.Certifies.{commits_above}
-use Rattle.certification.proofs.Counts.{count-above}
-use Rattle.certification.proofs.Entering.{up_to_next, entered-above}
+-- No commit is left.
+use Rattle.std.proofs.Common.{◌≡◌, ℕ, List, [], ◌∷◌, length, refl, arith}
+use Rattle.cert_meaning.specs.declared.items.CommitItem.{CommitItem}
+use Rattle.node_meaning.specs.Status.{each_once, pairs_above}
 use Rattle.certification.proofs.counting.count_above.Goals as goal
 
-pub enter-requires : goal.enter-requires
-enter-requires c = record {
-  up_to = subst (AreUpTo c.commit-item.result.number) (sym c.loop-commit.invariant.holds)
-      (up_to_next c.args.above c.args.commits.now c.loop-commit.commit-index c.commit-item.result c.loop-commit-test.true
-      c.commit-item.is c.if-commit-above.true c.requires);
-}
+none_left : (above : ℕ) (commits : List CommitItem) → length commits ≡ 0 → length (each_once (pairs_above above commits)) ≡ 0
+none_left above [] none = refl
+none_left above (c ∷ cs) none = absurd (omega (arith, none))
 
-pub returns : goal.returns
-returns c =
-    c.entries.ensures
-    ∙ count-above c.loop-commit.index c.args.above c.args.commits.now
-    (c.loop-commit.invariant.holds
-    ∙ ap (λ cs. entered (commits_above c.args.above cs)) (take_all c.loop-commit.commit-index c.args.commits.now c.loop-commit-test.false)
-    ∙ entered-above c.args.above c.args.commits.now)
+pub returns-clause-capped : goal.returns-clause-capped
+returns-clause-capped c =
+    let none = none_left c.args.above c.loop-commit.rest.now c.in_default.ensures.cases in
+    let holds = c.loop-commit.invariant.holds in
+    let within = c.loop-commit.invariant.within in
+    omega (arith, none, holds, within)
+
+pub returns-clause-most : goal.returns-clause-most
+returns-clause-most c =
+    let none = none_left c.args.above c.loop-commit.rest.now c.in_default.ensures.cases in
+    let most = c.loop-commit.invariant.most in
+    omega (arith, none, most)

@@ -1,0 +1,18 @@
+use Rattle.std.proofs.Common.{rules, tests, ◌∙◌, ◌&&◌, refl, sym}
+use Rattle.std.specs.List.{list_any}
+use Rattle.std.specs.Ordering.{is_lt}
+use Rattle.std.proofs.lemmas.Iterator.Consumers.{YieldsList-from_rest}
+use Rattle.std.proofs.lemmas.Iterator.Search.{any_from_yields_List}
+use Rattle.std.proofs.lemmas.List.Sorted.{list_any-IsPermutation}
+use Rattle.key_sets.specs.declared.kind.Kind.{Kind}
+use Rattle.key_sets.specs.declared.parts.Parts.{Parts}
+use Rattle.key_sets.specs.Parts.{parts_cmp}
+use Rattle.key_sets.specs.Keys.{pairs_of_key}
+use Rattle.node_meaning.specs.Status.{same_pair}
+use Rattle.certification.proofs.counting.set_has_after.Goals as goal
+
+pub returns : goal.returns
+returns c =
+    let has = λ (key : Parts × Kind). is_lt (parts_cmp c.args.after key.0) && list_any (same_pair c.args.pair) (pairs_of_key key) in
+    any_from_yields_List has _ _ c.any.result c.any.ensures.ran (YieldsList-from_rest c.iter.result refl) (λ x b q k. search (rules, tests))
+    ∙ sym (list_any-IsPermutation has c.args.keys.now.entries c.iter.result c.iter.ensures.keys)
