@@ -64,11 +64,6 @@ pub record Certifies (order : List Event) (committed certified : ℕ)
   pub changes : KeepsChanges order committed certified c.changes
   pub verdicts : c.verdicts ≡ judged_between order committed certified
 
--- there is such an order
-abbrev pub IsCertifying : ℕ → ModelCertification → Type 0
-IsCertifying committed c =
-    (order : List Event) × (certified : ℕ) × Certifies order committed certified c
-
 -- there is such an order, and one more number
 pub record CanCertify (c : ModelCertification) : Type 0 where
   pub order : List Event

@@ -85,7 +85,8 @@ fn set_has_after(keys: &KeySet, after: Parts, pair: (Parts, Kind)) -> bool
 
 // Whether the key stands after these parts and has the pair.
 fn key_has_after(key: (Parts, Kind), after: Parts, pair: (Parts, Kind)) -> bool
-    ensures { result ≡ is_lt (parts_cmp after key.0) && list_any (same_pair pair) (pairs_of_key key) }
+    ensures { result ≡ is_lt (parts_cmp after key.0)
+        && list_any (same_pair pair) (pairs_of_key key) }
 {
     is_below(&after, &key.0) && key_has(key, pair)
 }
