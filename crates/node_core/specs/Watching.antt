@@ -1,4 +1,4 @@
--- what the watcher of a node hears, and where it is told its end
+-- what the watcher of a node hears
 use Rattle.std.specs.Prelude.{◌≡◌, ℕ, zero, suc, List, [], ◌∷◌, ◌++◌, ◌+◌, Option, Some, None, IfSome}
 use Rattle.wsrep_base.specs.declared.verdict.Judged.{Judged}
 use Rattle.wsrep_watch.specs.declared.note.Note.{Note}
@@ -8,6 +8,7 @@ use Rattle.node_meaning.specs.Units.{judged_at}
 use Rattle.node_core.specs.declared.answers.Advanced.{Advanced}
 use Rattle.node_core.specs.declared.answers.Advanced.TheVariants as advanced
 
+-- the note of a number, by what became of its event
 abbrev pub noted : ℕ → Judged → Note
 noted number judged = record { number = number; judged = judged }
 
