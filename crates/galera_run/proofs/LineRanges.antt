@@ -247,7 +247,9 @@ verb_is (verb ∷ words) =
     (chosen InRange (verb is "finish") _ _ (of_number act.Finish (λ n. tt))
     (chosen InRange (verb is "advance") _ _ (alone_is InRange act.Advance words tt)
     (chosen InRange (verb is "report") _ _ (alone_is InRange act.Report words tt)
-    (chosen InRange (verb is "drain") _ _ (alone_is InRange act.Drain words tt) tt)))))))
+    (chosen InRange (verb is "status") _ _ (alone_is InRange act.Status words tt)
+    (chosen InRange (verb is "drain") _ _ (alone_is InRange act.Drain words tt)
+    (chosen InRange (verb is "leave") _ _ (alone_is InRange act.Leave words tt) tt)))))))))
   where
     of_number : (f : ℕ → Act) → ((n : ℕ) → InRange (f n))
         → IfSome (option_map f (only_number words)) InRange

@@ -19,7 +19,7 @@ use Rattle.order_event.specs.declared.step.Act.TheVariants as act
 use Rattle.order_event.specs.declared.step.Answer.{Answer}
 use Rattle.order_event.specs.declared.step.Answer.TheVariants as answer
 use Rattle.order_event.specs.declared.step.Step.{Step}
-use Rattle.group_order.specs.Order.{event_of}
+use Rattle.group_order.specs.Order.{event_of, view_without}
 use Rattle.cert_meaning.specs.declared.items.CommitItem.{CommitItem}
 use Rattle.cert_meaning.specs.State.{FoldState, no_events}
 use Rattle.cert_meaning.specs.Fold.{after, judged, judged_all, state_at}
@@ -28,9 +28,10 @@ use Rattle.node_meaning.specs.declared.progress.Stage.{Stage}
 use Rattle.node_meaning.specs.declared.progress.Stage.TheVariants.{Started, Finished}
 use Rattle.node_meaning.specs.Node.{ModelNode, ApplyUnit, is_left, is_joining, rows_at, seen_rows, ahead, passed_at}
 use Rattle.node_meaning.specs.Client.{row_reply, is_pending, served, asked, told_first, client}
+use Rattle.node_meaning.specs.Status.{status_step}
 use Rattle.node_meaning.specs.Steps.{is_local, unqueued, took, take_event, take_step, touching_before, certify_event, certify_step, start_after, start_unit, start_step, finish_stage, finish_unit, finish_step, is_ready, committed_next, advance_step, put_report, report_step}
 use Rattle.node_meaning.specs.Node.{is_connected}
-use Rattle.node_meaning.specs.Cluster.{ModelCluster, order_first, step_of, step_at, cluster_step, run}
+use Rattle.node_meaning.specs.Cluster.{ModelCluster, leave_now, order_first, step_of, step_at, cluster_step, run}
 use Rattle.node_laws.proofs.SetLists.{equal}
 use Rattle.answer_laws.specs.Answers.{Asker, Told, told_of, asked_of, told_run}
 use Rattle.galera_run.specs.Headline.{HasGrown, Shows, IsOfFold, reply_to, replies}
@@ -45,9 +46,15 @@ module _ (c : ModelCluster) where
     first_grown [] = same_order
     first_grown (m ∷ ms) = (event_of n.at.member m ∷ [], refl)
 
+    left_grown : (b : Bool)
+        → HasGrown c.order (cond b (answer.Disconnected, c) (leave_now c i n)).1.order
+    left_grown true = same_order
+    left_grown false = (view_without c.order n.at.member ∷ [], refl)
+
     act_grown : (a : Act) → HasGrown c.order (step_of c i n a).1.order
     act_grown act.Order = first_grown n.outbox
     act_grown act.Drain = (map (event_of n.at.member) n.outbox, refl)
+    act_grown act.Leave = left_grown (is_left n.at.phase)
     act_grown _ = same_order
 
   at_grown : (i : ℕ) (o : Option ModelNode) (a : Act) → HasGrown c.order (step_at c i o a).1.order
@@ -194,8 +201,16 @@ module _ (order : List Event) where
         (either_by (is_joining n.at.phase || nat_lt n.at.committed n.at.view)
         (answer.NotSynced, n) (answer.Reported n.at.committed, put_report n) tt tt)
 
+    status_of : IsOfFold order (status_step order n).0
+    unfolding status_step
+    status_of = tt
+
 module _ (c : ModelCluster) where
   module _ (i : ℕ) (n : ModelNode) where
+    left_of : (b : Bool) → IsOfFold c.order (cond b (answer.Disconnected, c) (leave_now c i n)).0
+    left_of true = tt
+    left_of false = tt
+
     first_of : (queue : List Message) → IsOfFold c.order (order_first c i n queue).0
     first_of [] = tt
     first_of (m ∷ ms) = tt
@@ -208,6 +223,8 @@ module _ (c : ModelCluster) where
     act_of_fold (act.Finish number) = finish_of c.order n number
     act_of_fold act.Advance = advance_of c.order n
     act_of_fold act.Report = report_of c.order n
+    act_of_fold act.Status = status_of c.order n
+    act_of_fold act.Leave = left_of (is_left n.at.phase)
     act_of_fold _ = tt
 
   at_of_fold : (i : ℕ) (o : Option ModelNode) (a : Act) → IsOfFold c.order (step_at c i o a).0
