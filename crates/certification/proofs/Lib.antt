@@ -6,3 +6,4 @@ pub mod Verdicts
 pub mod Status
 pub mod Pairs
 pub mod Counted
+pub mod Lookup

@@ -1,10 +1,11 @@
 //! How many different kinds at parts commits have. No call takes memory: each key that is kept is
-//! compared with those behind it.
-ghost use Rattle.std.specs.Prelude.{◌≡◌, ◌≤◌, ◌+◌, ◌-◌, ◌*◌, ◌^◌, ◌++◌, ◌&&◌, nat_lt, length, min};
+//! compared with those behind it, and that costs up to the square of their number.
+ghost use Rattle.std.specs.Prelude.{◌≡◌, ◌≤◌, ◌+◌, ◌-◌, ◌*◌, ◌^◌, ◌++◌, ◌&&◌, ◌==◌, nat_lt, is_none, length, min};
 ghost use Rattle.std.specs.List.{list_any};
 ghost use Rattle.std.specs.Ordering.{is_lt};
 ghost use Rattle.key_sets.specs.Parts.{parts_cmp};
-ghost use Rattle.key_sets.specs.Keys.{LIMIT, pairs_of, pairs_of_key};
+ghost use Rattle.key_sets.specs.Kinds.{kind_number};
+ghost use Rattle.key_sets.specs.Keys.{LIMIT, pairs_of, pairs_of_key, table_pair};
 ghost use Rattle.node_meaning.specs.Status.{each_once, pairs_above, same_pair};
 ghost use Rattle.certification.specs.Certifies.{commits_above};
 ghost use Rattle.certification.specs.Counting.{has_after, is_new, new_table};
@@ -113,19 +114,50 @@ fn commit_has(above: u64, commit: &CommitItem, pair: (Parts, Kind)) -> bool
     commit.number > above && set_has(&commit.keys, pair)
 }
 
-// Whether a key of the set has the pair.
+// Whether a key of the set has the pair. It goes over the keys only for a kind shared at a table.
 fn set_has(keys: &KeySet, pair: (Parts, Kind)) -> bool
     ensures { result ≡ list_any (same_pair pair) (pairs_of keys.now) }
 {
-    keys.iter()
-        .any(|(parts, kind)| key_has((*parts, *kind), pair))
+    has_key(keys, pair) || is_shared_table(pair) && has_row_of(keys, pair)
+}
+
+// Whether the pair is a key of the set.
+fn has_key(keys: &KeySet, pair: (Parts, Kind)) -> bool
+    ensures { result ≡ list_any (same_pair pair) keys.now.entries }
+{
+    match keys.kind_at(&pair.0) {
+        Some(kind) => pair.1 == kind,
+        None => false,
+    }
+}
+
+// Whether the pair is a table's, and shared.
+fn is_shared_table(pair: (Parts, Kind)) -> bool
+    ensures { result ≡ is_none pair.0.row && kind_number pair.1 == 0 }
+{
+    pair.0.row.is_none() && pair.1 == Kind::Shared
+}
+
+// Whether some row's key has the pair at its table.
+fn has_row_of(keys: &KeySet, pair: (Parts, Kind)) -> bool
+    ensures { result ≡ list_any (λ key. list_any (same_pair pair) (table_pair key.0 key.0.row))
+        keys.now.entries }
+{
+    keys.iter().any(|(parts, _)| is_row_of(*parts, pair))
+}
+
+// Whether the parts are a row's, which has the pair at its table.
+fn is_row_of(parts: Parts, pair: (Parts, Kind)) -> bool
+    ensures { result ≡ list_any (same_pair pair) (table_pair parts parts.row) }
+{
+    parts.row.is_some() && is_same(pair, (parts.table_parts(), Kind::Shared))
 }
 
 // Whether the key has the pair: by itself, or as a row's key at its table.
 fn key_has(key: (Parts, Kind), pair: (Parts, Kind)) -> bool
     ensures { result ≡ list_any (same_pair pair) (pairs_of_key key) }
 {
-    is_same(pair, key) || key.0.row.is_some() && is_same(pair, (key.0.table_parts(), Kind::Shared))
+    is_same(pair, key) || is_row_of(key.0, pair)
 }
 
 // Whether two pairs are the same.
