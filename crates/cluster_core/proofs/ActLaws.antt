@@ -22,12 +22,12 @@ use Rattle.node_meaning.specs.Node.{ModelNode, is_connected, start_node}
 use Rattle.node_meaning.specs.Steps.{first_sent, sent_out, take_event, take_step, node_step}
 use Rattle.node_meaning.specs.Cluster.{ModelCluster, set_at, order_first, with_node, step_of, step_at, cluster_step, orders_at, orders_of, node_orders, will_order, start_cluster}
 use Rattle.node_parts.specs.Queue.{oldest}
-use Rattle.node_core.specs.declared.node.Node.{Node}
+use Rattle.node_core.specs.declared.node.NodeParts.{NodeParts}
 use Rattle.node_core.specs.Answers.{is_started}
 use Rattle.node_core.specs.Memory.{CallWants, TakeWants, CertifyWants, StartWants, ReportWants}
 use Rattle.node_core.specs.Stands.{DoneOver, plain_of, quietly}
-use Rattle.cluster_core.specs.declared.seat.Seat.{Seat}
-use Rattle.cluster_core.specs.Seated.{IsSeated, SeatDone, SeatDoes, SeatTakes, SeatUnchanged, work_of}
+use Rattle.cluster_core.specs.declared.seat.Seat.{Seat as SeatOf}
+use Rattle.cluster_core.specs.Seated.{Seat, IsSeated, SeatDone, SeatDoes, SeatTakes, SeatUnchanged, seen, work_of}
 use Rattle.cluster_core.specs.declared.fault.StepFault.{StepFault}
 use Rattle.cluster_core.specs.declared.fault.StepFault.TheVariants as fault
 use Rattle.cluster_core.specs.Faults.{step_fault}
@@ -48,7 +48,7 @@ there_after [] i x y there = absurd cc
 there_after (z ∷ zs) zero x y there = refl
 there_after (z ∷ zs) (suc i) x y there = there_after zs i x y there
 
-all_append : {A : Type 0} (P : A → Type 0) (xs ys : List A) → AllByRecursion P xs → AllByRecursion P ys → AllByRecursion P (xs ++ ys)
+pub all_append : {A : Type 0} (P : A → Type 0) (xs ys : List A) → AllByRecursion P xs → AllByRecursion P ys → AllByRecursion P (xs ++ ys)
 all_append P [] ys here there = there
 all_append P (x ∷ xs) ys here there = (here.0, all_append P xs ys here.1 there)
 
@@ -162,7 +162,7 @@ some_first before now nodes i number n after m (x ∷ xs) first is counts sent =
     ∙ ap (λ o. (answer.Ordered (length before + 1), cluster_of o (set_at nodes i after))) order
     ∙ ap (λ k. (answer.Ordered (length before + 1), cluster_of (before ++ event_of n.at.member x ∷ []) (set_at nodes i k))) sent
 
-pub order_done : (before now : List Event) (old : Seat) (node : Node) (m : Message) (number : ℕ) → oldest old.node.queue.outbox ≡ Some m
+pub order_done : (before now : List Event) (old : Seat) (node : NodeParts) (m : Message) (number : ℕ) → oldest old.node.queue.outbox ≡ Some m
     → now ≡ before ++ event_of old.node.at.member m ∷ [] → number ≡ length now → DoneOver before (quietly sent_out before) old.node node tt
     → IsKept before old → Acted act.Order before now old (record old { node = node }) (answer.Ordered number)
 order_done before now old node m number first is counts d kept =
@@ -277,23 +277,26 @@ map_append : {A B : Type 0} (f : A → B) (xs ys : List A) → map f (xs ++ ys) 
 map_append f [] ys = refl
 map_append f (x ∷ xs) ys = ap (λ zs. f x ∷ zs) (map_append f xs ys)
 
-abbrev pub SeatsTo : List ℕ → ℕ → List Seat → Type 0
-SeatsTo id k seats = (nodes_of seats ≡ map (start_node id) (up_to k)) × ((order : List Event) → AllByRecursion (IsSeated order) seats)
+abbrev pub AreSeated : {W : Type 0} → List Event → List (SeatOf W) → Type 0
+AreSeated order seats = AllByRecursion (λ s. IsSeated order (seen s)) seats
 
-pub no_seat : (id : List ℕ) (seats : List Seat) → seats ≡ [] → SeatsTo id 0 seats
+abbrev pub SeatsTo : {W : Type 0} → List ℕ → ℕ → List (SeatOf W) → Type 0
+SeatsTo id k seats = (nodes_of seats ≡ map (start_node id) (up_to k)) × ((order : List Event) → AreSeated order seats)
+
+pub no_seat : {W : Type 0} (id : List ℕ) (seats : List (SeatOf W)) → seats ≡ [] → SeatsTo id 0 seats
 no_seat id seats none = subst (SeatsTo id 0) (sym none) (refl, λ order. tt)
 
-pub next_seat : (id : List ℕ) (seats now : List Seat) (seat : Seat) (k : ℕ) → now ≡ seats ++ seat ∷ []
-    → plain_of seat.node ≡ start_node id (k + 1) → ((order : List Event) → IsSeated order seat) → SeatsTo id k seats → SeatsTo id (k + 1) now
-next_seat id seats now seat k is start seated so_far =
+pub next_seat : {W : Type 0} (id : List ℕ) (seats now : List (SeatOf W)) (seat : SeatOf W) (k : ℕ) → now ≡ seats ++ seat ∷ []
+    → plain_of seat.node.parts ≡ start_node id (k + 1) → ((order : List Event) → IsSeated order (seen seat)) → SeatsTo id k seats → SeatsTo id (k + 1) now
+next_seat {W} id seats now seat k is start seated so_far =
     let e : k + 1 ≡ suc k = omega arith in
     subst (λ j. SeatsTo id j now) (sym e)
     (subst (SeatsTo id (suc k)) (sym is) (
-      map_append (λ (s : Seat). plain_of s.node) seats (seat ∷ [])
-          ∙ ap (λ ns. ns ++ plain_of seat.node ∷ []) so_far.0
+      map_append (λ (s : SeatOf W). plain_of s.node.parts) seats (seat ∷ [])
+          ∙ ap (λ ns. ns ++ plain_of seat.node.parts ∷ []) so_far.0
           ∙ ap (λ n. map (start_node id) (up_to k) ++ n ∷ []) (start ∙ ap (start_node id) e)
           ∙ sym (map_append (start_node id) (up_to k) (suc k ∷ [])),
-      λ order. all_append (IsSeated order) seats (seat ∷ []) (so_far.1 order) (seated order, tt),
+      λ order. all_append (λ s. IsSeated order (seen s)) seats (seat ∷ []) (so_far.1 order) (seated order, tt),
     ))
 
 -- the first view has few members
@@ -306,30 +309,30 @@ unfolding after_acts
 runs_none order n = record { is = λ nodes node there. ap (cluster_of order) (set_at_same nodes (node - 1) n there) }
 
 -- ---- one seat among others
-pub set_nodes : (seats : List Seat) (i : ℕ) (seat : Seat) → nodes_of (set seats i seat) ≡ set_at (nodes_of seats) i (plain_of seat.node)
+pub set_nodes : {W : Type 0} (seats : List (SeatOf W)) (i : ℕ) (seat : SeatOf W) → nodes_of (set seats i seat) ≡ set_at (nodes_of seats) i (plain_of seat.node.parts)
 set_nodes [] i seat = refl
 set_nodes (s ∷ ss) zero seat = refl
-set_nodes (s ∷ ss) (suc i) seat = ap (λ ns. plain_of s.node ∷ ns) (set_nodes ss i seat)
+set_nodes (s ∷ ss) (suc i) seat = ap (λ ns. plain_of s.node.parts ∷ ns) (set_nodes ss i seat)
 
-pub at_nodes : (seats : List Seat) (i : ℕ) (seat : Seat) → slice_get seats i ≡ Some seat → slice_get (nodes_of seats) i ≡ Some (plain_of seat.node)
+pub at_nodes : {W : Type 0} (seats : List (SeatOf W)) (i : ℕ) (seat : SeatOf W) → slice_get seats i ≡ Some seat → slice_get (nodes_of seats) i ≡ Some (plain_of seat.node.parts)
 at_nodes [] i seat there = absurd cc
-at_nodes (s ∷ ss) zero seat there = ap (λ (x : Seat). Some (plain_of x.node)) (same_Some s seat there)
+at_nodes {W} (s ∷ ss) zero seat there = ap (λ (x : SeatOf W). Some (plain_of x.node.parts)) (same_Some s seat there)
 at_nodes (s ∷ ss) (suc i) seat there = at_nodes ss i seat there
 
-all_grow : (before now more : List Event) (seats : List Seat) → now ≡ before ++ more → AllByRecursion (IsSeated before) seats → AllByRecursion (IsSeated now) seats
+all_grow : {W : Type 0} (before now more : List Event) (seats : List (SeatOf W)) → now ≡ before ++ more → AreSeated before seats → AreSeated now seats
 all_grow before now more [] is all = tt
 all_grow before now more (s ∷ ss) is all =
-    (subst (λ order. IsSeated order s) (sym is) (seated_grow before more s all.0), all_grow before now more ss is all.1)
+    (subst (λ order. IsSeated order (seen s)) (sym is) (seated_grow before more (seen s) all.0), all_grow before now more ss is all.1)
 
 all_set : {A : Type 0} (P : A → Type 0) (xs : List A) (i : ℕ) (x : A) → AllByRecursion P xs → P x → AllByRecursion P (set xs i x)
 all_set P [] i x all it = tt
 all_set P (y ∷ ys) zero x all it = (it, all.1)
 all_set P (y ∷ ys) (suc i) x all it = (all.0, all_set P ys i x all.1 it)
 
-pub kept_set : (before now : List Event) (seats : List Seat) (i : ℕ) (seat : Seat) → Goes before now seat → AreKept before seats → AreKept now (set seats i seat)
+pub kept_set : {W : Type 0} (before now : List Event) (seats : List (SeatOf W)) (i : ℕ) (seat : SeatOf W) → Goes before now (seen seat) → AreKept before seats → AreKept now (set seats i seat)
 kept_set before now seats i seat goes kept = record {
   few = goes.kept.few;
-  seated = all_set (IsSeated now) seats i seat (all_grow before now goes.more seats goes.grown kept.seated) goes.kept.seated;
+  seated = all_set (λ s. IsSeated now (seen s)) seats i seat (all_grow before now goes.more seats goes.grown kept.seated) goes.kept.seated;
 }
 
 left_same : (node : ℕ) (before now : List Event) (nodes : List ModelNode) (old new : ModelNode) → slice_get nodes (node - 1) ≡ Some old
@@ -351,8 +354,8 @@ stopped_by act.Drain node before now nodes old new next there stops = record {
 }
 stopped_by a node before now nodes old new next there left = (left.0, left_same node before now nodes old new there (left.1, left.2))
 
-module _ (a : Act) (before now : List Event) (seats : List Seat) (i : ℕ) (old new : Seat) (there : slice_get seats i ≡ Some old) where
-  pub step_done : (x : Answer) → Acted a before now old new x
+module _ {W : Type 0} (a : Act) (before now : List Event) (seats : List (SeatOf W)) (i : ℕ) (old new : SeatOf W) (there : slice_get seats i ≡ Some old) where
+  pub step_done : (x : Answer) → Acted a before now (seen old) (seen new) x
       → (x, cluster_of now (nodes_of (set seats i new))) ≡ step_at (cluster_of before (nodes_of seats)) i (slice_get (nodes_of seats) i) a
   step_done x acted =
       ap (λ ns. (x, cluster_of now ns)) (set_nodes seats i new)
@@ -360,21 +363,21 @@ module _ (a : Act) (before now : List Event) (seats : List Seat) (i : ℕ) (old 
       ∙ ap (λ o. step_at (cluster_of before (nodes_of seats)) i o a) (sym (at_nodes seats i old there))
 
   -- over the nodes of the seats
-  module _ (e : StepFault) (failed : Failed a before now old new e) where
+  module _ (e : StepFault) (failed : Failed a before now (seen old) (seen new) e) where
     stopped : StoppedAt a (i + 1) (cluster_of before (nodes_of seats)) (cluster_of now (nodes_of (set seats i new))) failed.next
     stopped =
         let same : (i + 1) - 1 ≡ i = omega arith in
         subst (λ ns. StoppedAt a (i + 1) (cluster_of before (nodes_of seats)) (cluster_of now ns) failed.next) (sym (set_nodes seats i new))
-        (subst (λ k. StoppedAt a (i + 1) (cluster_of before (nodes_of seats)) (cluster_of now (set_at (nodes_of seats) k (plain_of new.node))) failed.next) same
-        (stopped_by a (i + 1) before now (nodes_of seats) (plain_of old.node) (plain_of new.node) failed.next
+        (subst (λ k. StoppedAt a (i + 1) (cluster_of before (nodes_of seats)) (cluster_of now (set_at (nodes_of seats) k (plain_of new.node.parts))) failed.next) same
+        (stopped_by a (i + 1) before now (nodes_of seats) (plain_of old.node.parts) (plain_of new.node.parts) failed.next
         (ap (slice_get (nodes_of seats)) same ∙ at_nodes seats i old there) failed.left))
 
-    node_is : slice_get (nodes_of (set seats i new)) ((i + 1) - 1) ≡ Some (plain_of new.node)
+    node_is : slice_get (nodes_of (set seats i new)) ((i + 1) - 1) ≡ Some (plain_of new.node.parts)
     node_is =
         let same : (i + 1) - 1 ≡ i = omega arith in
         ap (slice_get (nodes_of (set seats i new))) same
         ∙ ap (λ ns. slice_get ns i) (set_nodes seats i new)
-        ∙ there_after (nodes_of seats) i (plain_of old.node) (plain_of new.node) (at_nodes seats i old there)
+        ∙ there_after (nodes_of seats) i (plain_of old.node.parts) (plain_of new.node.parts) (at_nodes seats i old there)
 
     pub step_failed : FailedBy a (i + 1) (cluster_of before (nodes_of seats)) (cluster_of now (nodes_of (set seats i new))) e
     step_failed = (failed.next, stopped, subst (λ o. MayFailAt now o failed.next e) (sym node_is) failed.may)
@@ -432,14 +435,14 @@ pub first_counts : (queue : List Message) → min (length queue) 1 ≡ orders_of
 first_counts [] = omega arith
 first_counts (m ∷ ms) = omega arith
 
-length-nodes : (seats : List Seat) → length (nodes_of seats) ≡ length seats
+length-nodes : {W : Type 0} (seats : List (SeatOf W)) → length (nodes_of seats) ≡ length seats
 length-nodes [] = refl
 length-nodes (s ∷ ss) = ap suc (length-nodes ss)
 
 -- how many events the step of a seat is going to order
-pub will_is : (c : ModelCluster) (seats : List Seat) (at : ℕ) (step : Step) (seat : Seat) (k : ℕ) → nodes_of seats ≡ c.nodes
+pub will_is : {W : Type 0} (c : ModelCluster) (seats : List (SeatOf W)) (at : ℕ) (step : Step) (seat : SeatOf W) (k : ℕ) → nodes_of seats ≡ c.nodes
     → at ≡ step.node - 1 → (1 ≤ step.node) × (step.node ≤ length c.nodes) → seat ≡ get_or seats at seat
-    → k ≡ node_orders step.act (plain_of seat.node) → k ≡ will_order c step
+    → k ≡ node_orders step.act (plain_of seat.node.parts) → k ≡ will_order c step
 will_is c seats at step seat k nodes is fits item counts =
     let long : length seats ≡ length c.nodes = sym (length-nodes seats) ∙ ap length nodes in
     let there = item_there seats at seat (omega (arith, long, is, fits.0, fits.1)) item in
@@ -449,14 +452,14 @@ will_is c seats at step seat k nodes is fits item counts =
     ∙ ap (λ ns. orders_at (slice_get ns (step.node - 1)) step.act) nodes
 
 -- ---- the cluster at its start
-pub kept_start : (order : List Event) (nodes : ℕ) (seats : List Seat) → order ≡ start_order nodes → nodes ≤ 9
-    → AllByRecursion (IsSeated order) seats → AreKept order seats
+pub kept_start : {W : Type 0} (order : List Event) (nodes : ℕ) (seats : List (SeatOf W)) → order ≡ start_order nodes → nodes ≤ 9
+    → AreSeated order seats → AreKept order seats
 kept_start order nodes seats is small seated = record {
   few = subst (AllByRecursion HasFewMembers) (sym is) (few_at_start nodes small);
   seated = seated;
 }
 
-pub cluster_start : (order : List Event) (nodes : ℕ) (id : List ℕ) (seats : List Seat) → order ≡ start_order nodes
+pub cluster_start : {W : Type 0} (order : List Event) (nodes : ℕ) (id : List ℕ) (seats : List (SeatOf W)) → order ≡ start_order nodes
     → nodes_of seats ≡ map (start_node id) (up_to nodes) → cluster_of order (nodes_of seats) ≡ start_cluster nodes id
 unfolding start_cluster
 cluster_start order nodes id seats is starts = ap (λ o. cluster_of o (nodes_of seats)) is ∙ ap (cluster_of (start_order nodes)) starts

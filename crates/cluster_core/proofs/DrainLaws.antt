@@ -16,8 +16,7 @@ use Rattle.node_core.specs.Memory.{StartWants}
 use Rattle.node_core.specs.Stands.{plain_of}
 use Rattle.cluster_core.specs.declared.fault.StepFault.{StepFault}
 use Rattle.cluster_core.specs.declared.fault.StepFault.TheVariants as fault
-use Rattle.cluster_core.specs.declared.seat.Seat.{Seat}
-use Rattle.cluster_core.specs.Seated.{IsSeated, SeatDone, SeatUnchanged}
+use Rattle.cluster_core.specs.Seated.{Seat, IsSeated, SeatDone, SeatUnchanged}
 use Rattle.node_laws.specs.Drains.{after_acts, all_sent, sent_acts, taken_acts, certified_acts, commit_acts, drain_acts}
 use Rattle.cluster_core.specs.Steps.{Wants, MayFail}
 use Rattle.cluster_core.specs.Acts.{IsKept, Goes, Acted, Failed, Runs, Stops, Halts, cluster_of}

@@ -6,8 +6,7 @@ use Rattle.node_meaning.specs.Node.{ModelNode}
 use Rattle.node_meaning.specs.Steps.{start_step, finish_step, times, commit_next}
 use Rattle.node_core.specs.Stands.{plain_of}
 use Rattle.node_laws.proofs.StepCounts.{take_grows, certify_grows, start_grows, finish_grows, advance_grows}
-use Rattle.cluster_core.specs.declared.seat.Seat.{Seat}
-use Rattle.cluster_core.specs.Seated.{IsSeated}
+use Rattle.cluster_core.specs.Seated.{Seat, IsSeated}
 use Rattle.cluster_core.specs.Drain.{Sent, Takes, Certifies, Commits, HasSerials, take_next, certify_next}
 
 -- the next serial together with the live transactions

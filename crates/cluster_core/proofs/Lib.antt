@@ -1,4 +1,5 @@
 pub mod ActLaws
+pub mod LeaveLaws
 pub mod CountedLaws
 pub mod DrainLaws
 pub mod DrainSerials

@@ -10,7 +10,7 @@ use Rattle.node_meaning.specs.Node.{ModelNode}
 use Rattle.node_meaning.specs.Steps.{commit_next, times}
 use Rattle.node_meaning.specs.Cluster.{ModelCluster, set_at, step_at, cluster_step}
 use Rattle.node_core.specs.Stands.{plain_of}
-use Rattle.cluster_core.specs.declared.seat.Seat.{Seat}
+use Rattle.cluster_core.specs.Seated.{Seat}
 use Rattle.node_laws.specs.Drains.{after_acts, commit_acts}
 use Rattle.cluster_core.specs.Acts.{Acted, Runs, Stops, cluster_of}
 use Rattle.cluster_core.proofs.ActLaws.{runs_none, there_after}

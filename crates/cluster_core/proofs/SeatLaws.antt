@@ -20,15 +20,14 @@ use Rattle.node_meaning.specs.Node.{ModelNode, ApplyUnit, start_node}
 use Rattle.node_meaning.specs.Client.{client}
 use Rattle.node_meaning.specs.Units.{unit_task}
 use Rattle.node_meaning.specs.Steps.{start_step, finish_step, take_step, certify_step, advance_step, report_step, node_step}
-use Rattle.node_core.specs.declared.node.Node.{Node}
+use Rattle.node_core.specs.declared.node.NodeParts.{NodeParts}
 use Rattle.node_core.specs.declared.answers.Started.{Started}
 use Rattle.node_core.specs.declared.answers.Started.TheVariants as started
 use Rattle.node_core.specs.Answers.{is_started, started_answer, GivesTask}
 use Rattle.node_core.specs.Memory.{StartWants, is_start}
 use Rattle.node_core.specs.Stands.{Stands, Unchanged, DoneOver, plain_of}
 use Rattle.node_core.proofs.NodeLaws.{unchanged_stands, stands_grow, started_task, advance_started}
-use Rattle.cluster_core.specs.declared.seat.Seat.{Seat}
-use Rattle.cluster_core.specs.Seated.{IsSeated, IsSomewhere, SeatDone, SeatUnchanged, KeepsTask, kept_at, work_of}
+use Rattle.cluster_core.specs.Seated.{Seat, IsSeated, IsSomewhere, SeatDone, SeatUnchanged, KeepsTask, kept_at, work_of}
 use Rattle.node_laws.proofs.StartedUnits.{client_units, take_units, certify_units, report_units, Starts, start_starts, finish_done, finish_idle}
 
 -- ---- numbers
@@ -48,7 +47,7 @@ on_err (Err e) p = p
 
 -- ---- at the start
 pub new_seated : (order : List Event) (id : List ℕ) (member : ℕ) (seat : Seat) → plain_of seat.node ≡ start_node id member
-    → seat.done.entries ≡ [] → Stands order seat.node → IsSeated order seat
+    → seat.done ≡ [] → Stands order seat.node → IsSeated order seat
 new_seated order id member seat start none st = record {
   stands = st;
   work = λ k. ap (λ es. kept_at es k) none
@@ -58,7 +57,7 @@ new_seated order id member seat start none st = record {
 
 -- ---- a node that is unchanged
 pub unchanged : (old new : Seat) → Unchanged old.node new.node
-    → ((k : ℕ) → kept_at new.done.entries k ≡ kept_at old.done.entries k) → SeatUnchanged old new
+    → ((k : ℕ) → kept_at new.done k ≡ kept_at old.done k) → SeatUnchanged old new
 unchanged old new u same = record {
   plain = u.plain;
   seated = λ order s. record {
@@ -68,7 +67,7 @@ unchanged old new u same = record {
 }
 
 -- ---- steps that leave each unit started that was
-pub seat_does : (order : List Event) (f : ModelNode → Answer × ModelNode) (old : Seat) (node : Node) (a : Answer)
+pub seat_does : (order : List Event) (f : ModelNode → Answer × ModelNode) (old : Seat) (node : NodeParts) (a : Answer)
     → DoneOver order f old.node node a
     → ((k : ℕ) → is_started (get (f (plain_of old.node)).1.units k) ≡ is_started (get old.node.units.units k))
     → IsSeated order old → SeatDone order f old (record old { node = node }) a
@@ -84,7 +83,7 @@ seat_does order f old node a d law s = record {
 at_number : (k : ℕ) (n m : ModelNode) → n.units ≡ m.units → is_started (get n.units k) ≡ is_started (get m.units k)
 at_number k n m same = ap (λ (units : FiniteMap nat_cmp ApplyUnit). is_started (get units k)) same
 
-pub client_does : (order : List Event) (session : ℕ) (call : Call) (old : Seat) (node : Node) (reply : Reply)
+pub client_does : (order : List Event) (session : ℕ) (call : Call) (old : Seat) (node : NodeParts) (reply : Reply)
     → DoneOver order (λ n. client order n session call) old.node node reply → IsSeated order old
     → SeatDone order (λ n. node_step order n (act.Client session call)) old (record old { node = node }) (answer.Client reply)
 client_does order session call old node reply d s =
@@ -92,36 +91,36 @@ client_does order session call old node reply d s =
     (record { same = ap (λ (r : Reply × ModelNode). (answer.Client r.0, r.1)) d.same; stands = d.stands })
     (λ k. at_number k (client order (plain_of old.node) session call).1 (plain_of old.node) (client_units order (plain_of old.node) session call)) s
 
-pub take_does : (order : List Event) (old : Seat) (node : Node) (a : Answer) → DoneOver order (take_step order) old.node node a → IsSeated order old
+pub take_does : (order : List Event) (old : Seat) (node : NodeParts) (a : Answer) → DoneOver order (take_step order) old.node node a → IsSeated order old
     → SeatDone order (take_step order) old (record old { node = node }) a
 take_does order old node a d s =
     seat_does order (take_step order) old node a d
     (λ k. at_number k (take_step order (plain_of old.node)).1 (plain_of old.node) (take_units order (plain_of old.node))) s
 
-pub certify_does : (order : List Event) (old : Seat) (node : Node) (a : Answer) → DoneOver order (λ n. certify_step order n) old.node node a
+pub certify_does : (order : List Event) (old : Seat) (node : NodeParts) (a : Answer) → DoneOver order (λ n. certify_step order n) old.node node a
     → IsSeated order old → SeatDone order (λ n. node_step order n act.Certify) old (record old { node = node }) a
 certify_does order old node a d s =
     seat_does order (λ n. certify_step order n) old node a d
     (λ k. at_number k (certify_step order (plain_of old.node)).1 (plain_of old.node) (certify_units order (plain_of old.node))) s
 
-pub advance_does : (order : List Event) (old : Seat) (node : Node) (a : Answer) → DoneOver order (λ n. advance_step order n) old.node node a
+pub advance_does : (order : List Event) (old : Seat) (node : NodeParts) (a : Answer) → DoneOver order (λ n. advance_step order n) old.node node a
     → IsSeated order old → SeatDone order (λ n. node_step order n act.Advance) old (record old { node = node }) a
 advance_does order old node a d s =
     seat_does order (λ n. advance_step order n) old node a d (advance_started order old.node s.stands) s
 
-pub report_does : (order : List Event) (old : Seat) (node : Node) (a : Answer) → DoneOver order (λ n. report_step n) old.node node a
+pub report_does : (order : List Event) (old : Seat) (node : NodeParts) (a : Answer) → DoneOver order (λ n. report_step n) old.node node a
     → IsSeated order old → SeatDone order (λ n. node_step order n act.Report) old (record old { node = node }) a
 report_does order old node a d s =
     seat_does order (λ n. report_step n) old node a d
     (λ k. at_number k (report_step (plain_of old.node)).1 (plain_of old.node) (report_units order (plain_of old.node))) s
 
 -- ---- more room for work, which leaves all as it was
-pub roomy : (old new : Seat) → new.node ≡ old.node → ((k : ℕ) → kept_at new.done.entries k ≡ kept_at old.done.entries k) → SeatUnchanged old new
+pub roomy : (old new : Seat) → new.node ≡ old.node → ((k : ℕ) → kept_at new.done k ≡ kept_at old.done k) → SeatUnchanged old new
 roomy old new node same = record {
   plain = ap plain_of node;
   seated = λ order s. record {
     stands = subst (Stands order) (sym node) s.stands;
-    work = λ k. same k ∙ s.work k ∙ ap (λ (n : Node). work_of order k (is_started (get n.units.units k))) (sym node);
+    work = λ k. same k ∙ s.work k ∙ ap (λ (n : NodeParts). work_of order k (is_started (get n.units.units k))) (sym node);
   };
 }
 
@@ -137,37 +136,37 @@ then_done order f old middle new a u d = record { same = d.same ∙ ap f u.plain
 
 -- ---- starting
 module _ (order : List Event) (old new : Seat) (number : ℕ) (s : IsSeated order old) where
-  work_left : new.done.entries ≡ old.done.entries → new.node.units.units ≡ old.node.units.units
-      → (k : ℕ) → kept_at new.done.entries k ≡ work_of order k (is_started (get new.node.units.units k))
+  work_left : new.done ≡ old.done → new.node.units.units ≡ old.node.units.units
+      → (k : ℕ) → kept_at new.done k ≡ work_of order k (is_started (get new.node.units.units k))
   work_left kept units k =
       ap (λ entries. kept_at entries k) kept ∙ s.work k
       ∙ ap (λ (us : FiniteMap nat_cmp ApplyUnit). work_of order k (is_started (get us k))) (sym units)
 
   new_work : (t : ModelTask) (keys : Keys) → t ≡ unit_task order number → (k : ℕ) (b : Bool) → eq_by_cmp nat_cmp k number ≡ b
-      → cond b (Some t) (kept_at old.done.entries k) ≡ work_of order k (is_started (cond b (Some (record { stage = StartedStage; keys = keys })) (get old.node.units.units k)))
+      → cond b (Some t) (kept_at old.done k) ≡ work_of order k (is_started (cond b (Some (record { stage = StartedStage; keys = keys })) (get old.node.units.units k)))
   new_work t keys is k true e = ap Some (is ∙ ap (unit_task order) (sym (tied numbers k number e)))
   new_work t keys is k false e = s.work k
 
   work_added : (t : ModelTask) (keys : Keys) → t ≡ unit_task order number
-      → ((k : ℕ) → kept_at new.done.entries k ≡ cond (number == k) (Some t) (kept_at old.done.entries k))
+      → ((k : ℕ) → kept_at new.done k ≡ cond (number == k) (Some t) (kept_at old.done k))
       → new.node.units.units ≡ insert old.node.units.units number (record { stage = StartedStage; keys = keys })
-      → (k : ℕ) → kept_at new.done.entries k ≡ work_of order k (is_started (get new.node.units.units k))
+      → (k : ℕ) → kept_at new.done k ≡ work_of order k (is_started (get new.node.units.units k))
   work_added t keys is kept units k =
-      kept k ∙ ap (λ b. cond b (Some t) (kept_at old.done.entries k)) (tie number k)
+      kept k ∙ ap (λ b. cond b (Some t) (kept_at old.done k)) (tie number k)
       ∙ new_work t keys is k (eq_by_cmp nat_cmp k number) refl
       ∙ ap (λ o. work_of order k (is_started o)) (sym (get-insert nat_cmp_total old.node.units.units number (record { stage = StartedStage; keys = keys }) k))
       ∙ ap (λ (us : FiniteMap nat_cmp ApplyUnit). work_of order k (is_started (get us k))) (sym units)
 
   work_after : (r : Started) → Starts number (started_answer number r) (plain_of old.node) (plain_of new.node) → GivesTask order number r
-      → KeepsTask number r old.done.entries new.done.entries
-      → (k : ℕ) → kept_at new.done.entries k ≡ work_of order k (is_started (get new.node.units.units k))
+      → KeepsTask number r old.done new.done
+      → (k : ℕ) → kept_at new.done k ≡ work_of order k (is_started (get new.node.units.units k))
   work_after (started.Unit t victims) starts is kept = work_added t starts.0 is kept starts.1
   work_after (started.NotYet earlier) starts is kept = work_left kept starts
   work_after started.Local starts is kept = work_left kept starts
   work_after started.NoUnit starts is kept = work_left kept starts
 
   pub start_does : (r : Started) → DoneOver order (λ n. start_step order n number) old.node new.node (started_answer number r)
-      → GivesTask order number r → KeepsTask number r old.done.entries new.done.entries
+      → GivesTask order number r → KeepsTask number r old.done new.done
       → SeatDone order (λ n. node_step order n (act.Start number)) old new (started_answer number r)
   start_does r d is kept = record {
     same = d.same;
@@ -180,7 +179,7 @@ module _ (order : List Event) (old new : Seat) (number : ℕ) (s : IsSeated orde
   }
 
 -- there is room for the work where the unit starts
-pub room_there : (order : List Event) (old new : Seat) (node : Node) (number spare : ℕ) (r : Started) → SeatUnchanged old new
+pub room_there : (order : List Event) (old new : Seat) (node : NodeParts) (number spare : ℕ) (r : Started) → SeatUnchanged old new
     → DoneOver order (λ n. start_step order n number) new.node node (started_answer number r)
     → (StartWants order (plain_of old.node) number → 0 < spare) → IsTrue (is_start (started_answer number r)) → 0 < spare
 room_there order old new node number spare r u d room is =
@@ -196,7 +195,7 @@ none_kept : (order : List Event) (number : ℕ) (b : Bool) → None ≡ work_of 
 none_kept order number true is = absurd cc
 none_kept order number false is = refl
 
-module _ (old : Seat) (number : ℕ) (t : ModelTask) (kept : kept_at old.done.entries number ≡ Some t) where
+module _ (old : Seat) (number : ℕ) (t : ModelTask) (kept : kept_at old.done number ≡ Some t) where
   kept_work : (order : List Event) → IsSeated order old
       → (is_started (get old.node.units.units number) ≡ true) × (t ≡ unit_task order number)
   kept_work order s = kept_is order number (is_started (get old.node.units.units number)) t (sym kept ∙ s.work number)
@@ -214,8 +213,8 @@ module _ (old : Seat) (number : ℕ) (t : ModelTask) (kept : kept_at old.done.en
       ∙ ap (unit_task order) (sym (kept_number at))
 
   module _ (order : List Event) (new : Seat) (s : IsSeated order old)
-      (gone : (k : ℕ) → kept_at new.done.entries k ≡ cond (number == k) None (kept_at old.done.entries k)) where
-    work_gone : (k : ℕ) (b : Bool) → cond b None (kept_at old.done.entries k) ≡ work_of order k (cond b false (is_started (get old.node.units.units k)))
+      (gone : (k : ℕ) → kept_at new.done k ≡ cond (number == k) None (kept_at old.done k)) where
+    work_gone : (k : ℕ) (b : Bool) → cond b None (kept_at old.done k) ≡ work_of order k (cond b false (is_started (get old.node.units.units k)))
     work_gone k true = refl
     work_gone k false = s.work k
 
@@ -228,7 +227,7 @@ module _ (old : Seat) (number : ℕ) (t : ModelTask) (kept : kept_at old.done.en
           same = same;
           seated = record {
             stands = d.stands;
-            work = λ k. gone k ∙ ap (λ b. cond b None (kept_at old.done.entries k)) (tie number k)
+            work = λ k. gone k ∙ ap (λ b. cond b None (kept_at old.done k)) (tie number k)
                 ∙ work_gone k (eq_by_cmp nat_cmp k number)
                 ∙ ap (work_of order k) (sym (finish_done (plain_of old.node) number k))
                 ∙ ap (λ (p : Answer × ModelNode). work_of order k (is_started (get p.1.units k))) (sym same);
@@ -236,15 +235,15 @@ module _ (old : Seat) (number : ℕ) (t : ModelTask) (kept : kept_at old.done.en
         }
 
 -- no work is kept for the number, and so no unit is started with it
-pub finish_none : (order : List Event) (old new : Seat) (number : ℕ) → kept_at old.done.entries number ≡ None
-    → new.node ≡ old.node → new.done.entries ≡ old.done.entries → IsSeated order old
+pub finish_none : (order : List Event) (old new : Seat) (number : ℕ) → kept_at old.done number ≡ None
+    → new.node ≡ old.node → new.done ≡ old.done → IsSeated order old
     → SeatDone order (λ n. node_step order n (act.Finish number)) old new (answer.NoUnit number)
 finish_none order old new number none node entries s = record {
-  same = ap (λ (n : Node). (answer.NoUnit number, plain_of n)) node
+  same = ap (λ (n : NodeParts). (answer.NoUnit number, plain_of n)) node
       ∙ finish_idle (plain_of old.node) number (none_kept order number (is_started (get old.node.units.units number)) (sym none ∙ s.work number));
   seated = record {
     stands = subst (Stands order) (sym node) s.stands;
-    work = λ k. ap (λ es. kept_at es k) entries ∙ s.work k ∙ ap (λ (n : Node). work_of order k (is_started (get n.units.units k))) (sym node);
+    work = λ k. ap (λ es. kept_at es k) entries ∙ s.work k ∙ ap (λ (n : NodeParts). work_of order k (is_started (get n.units.units k))) (sym node);
   };
 }
 

@@ -9,8 +9,8 @@ use Rattle.order_event.specs.Spelling.{HasFewMembers}
 use Rattle.node_meaning.specs.Node.{ModelNode}
 use Rattle.node_meaning.specs.Cluster.{ModelCluster, set_at, step_of}
 use Rattle.node_core.specs.Stands.{plain_of}
-use Rattle.cluster_core.specs.declared.seat.Seat.{Seat}
-use Rattle.cluster_core.specs.Seated.{IsSeated}
+use Rattle.cluster_core.specs.declared.seat.Seat as declared
+use Rattle.cluster_core.specs.Seated.{Seat, IsSeated, seen}
 use Rattle.cluster_core.specs.declared.fault.StepFault.{StepFault}
 use Rattle.node_laws.specs.Drains.{after_acts, drain_acts}
 use Rattle.cluster_core.specs.Steps.{MayFail}
@@ -72,9 +72,9 @@ pub record Failed (a : Act) (before now : List Event) (old new : Seat)
   pub goes : Goes before now new
 
 -- all seats of a cluster stand over the order
-pub record AreKept (order : List Event) (seats : List Seat) : Type 0 where
+pub record AreKept {W : Type 0} (order : List Event) (seats : List (declared.Seat W)) : Type 0 where
   pub few : AllByRecursion HasFewMembers order
-  pub seated : AllByRecursion (IsSeated order) seats
+  pub seated : AllByRecursion (λ s. IsSeated order (seen s)) seats
 
-abbrev pub nodes_of : List Seat → List ModelNode
-nodes_of seats = map (λ (s : Seat). plain_of s.node) seats
+abbrev pub nodes_of : {W : Type 0} → List (declared.Seat W) → List ModelNode
+nodes_of {W} seats = map (λ (s : declared.Seat W). plain_of s.node.parts) seats

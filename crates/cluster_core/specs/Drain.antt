@@ -8,8 +8,7 @@ use Rattle.node_meaning.specs.Node.{ModelNode}
 use Rattle.node_meaning.specs.Steps.{take_step, certify_step, commit_next, times}
 use Rattle.node_core.specs.Stands.{plain_of}
 use Rattle.cluster_core.specs.declared.fault.StepFault.{StepFault}
-use Rattle.cluster_core.specs.declared.seat.Seat.{Seat}
-use Rattle.cluster_core.specs.Seated.{IsSeated}
+use Rattle.cluster_core.specs.Seated.{Seat, IsSeated}
 use Rattle.node_laws.specs.Drains.{all_sent, commit_acts}
 use Rattle.cluster_core.specs.Acts.{Goes, Runs, Halts}
 

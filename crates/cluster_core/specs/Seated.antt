@@ -13,7 +13,8 @@ use Rattle.node_core.specs.declared.answers.Started.{Started}
 use Rattle.node_core.specs.declared.answers.Started.TheVariants as started
 use Rattle.node_core.specs.Answers.{is_started}
 use Rattle.node_core.specs.Stands.{Stands, plain_of}
-use Rattle.cluster_core.specs.declared.seat.Seat.{Seat}
+use Rattle.cluster_core.specs.declared.seat.Seat as declared
+use Rattle.node_core.specs.declared.node.NodeParts.{NodeParts}
 
 -- the work that is kept for a number
 abbrev pub kept_at : List (ℕ × ModelTask) → ℕ → Option ModelTask
@@ -24,11 +25,20 @@ abbrev pub work_of : List Event → ℕ → Bool → Option ModelTask
 work_of order number true = Some (unit_task order number)
 work_of order number false = None
 
+-- the parts of a node, and the work of its started units by their numbers
+pub record Seat : Type 0 where
+  pub node : NodeParts
+  pub done : List (ℕ × ModelTask)
+
+-- what of a seat its steps are said of: all but the watcher of its node
+abbrev pub seen : {W : Type 0} → declared.Seat W → Seat
+seen seat = record { node = seat.node.parts; done = seat.done.entries }
+
 -- the node stands, and the work of each started unit is kept, and no other
 pub record IsSeated (order : List Event) (seat : Seat) : Type 0 where
   pub stands : Stands order seat.node
   pub work : (number : ℕ)
-      → kept_at seat.done.entries number
+      → kept_at seat.done number
       ≡ work_of order number (is_started (get seat.node.units.units number))
 
 -- there is an order over which it stands

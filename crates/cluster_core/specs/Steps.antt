@@ -1,9 +1,9 @@
 -- what a step of a cluster leaves where it could not be done, and where it may come to a fault
-use Rattle.std.specs.Prelude.{◌≡◌, ◌≤◌, ◌<◌, ℕ, ◌-◌, List, length, slice_get, Option, Some, None, Result, MatchResult, IsTrue}
+use Rattle.std.specs.Prelude.{◌≡◌, ◌≤◌, ◌<◌, ℕ, ◌-◌, List, length, slice_get, Option, Some, None, Result, MatchResult, IsTrue, false}
 use Rattle.order_event.specs.declared.event.Event.{Event}
 use Rattle.order_event.specs.declared.step.Act.{Act}
 use Rattle.order_event.specs.declared.step.Act.TheVariants as act
-use Rattle.node_meaning.specs.Node.{ModelNode, is_connected}
+use Rattle.node_meaning.specs.Node.{ModelNode, is_connected, is_left}
 use Rattle.node_meaning.specs.Cluster.{ModelCluster}
 use Rattle.node_laws.specs.Drains.{StoppedAt}
 use Rattle.node_core.specs.Memory.{CallWants, TakeWants, CertifyWants, StartWants, ReportWants}
@@ -16,11 +16,12 @@ has_session (act.Client session call) = (1 ≤ session) × (session ≤ 32)
 has_session other = Unit {0}
 
 -- ---- where a step of a node may come to a fault
--- to a fault of the group, where it asks the group: ordering a message that waits, and taking,
--- where the node is connected
+-- to a fault of the group, where it asks the group: ordering a message that waits, taking, where the
+-- node is connected, and leaving, where it has not left
 abbrev pub Asks : ModelNode → Act → Type 0
 Asks n act.Order = 0 < length n.outbox
 Asks n act.Take = IsTrue (is_connected n.at.phase)
+Asks n act.Leave = is_left n.at.phase ≡ false
 Asks n other = ⊥
 
 -- to want of memory; finishing and committing never do
@@ -31,6 +32,7 @@ Wants order n act.Take = TakeWants n × (n.at.taken < length order)
 Wants order n act.Certify = CertifyWants n
 Wants order n (act.Start number) = StartWants order n number
 Wants order n act.Report = ReportWants n
+Wants order n act.Leave = is_left n.at.phase ≡ false
 Wants order n other = ⊥
 
 abbrev pub MayFail : List Event → ModelNode → Act → StepFault → Type 0

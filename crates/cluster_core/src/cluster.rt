@@ -5,14 +5,16 @@ ghost use Rattle.group_order.specs.Order.{start_order};
 ghost use Rattle.node_meaning.specs.Cluster.{start_cluster, cluster_step, will_order};
 
 use crate::fault::StepFault;
-use crate::seat::Seat;
+use crate::seat::{Seat, has_left};
 use crate::steps::step_at;
 use group_order::Group;
 use order_event::{Act, Answer, Step};
 use row_model::RowList;
 use std::alloc::Global;
 use std::marker::Model;
+use std::vec::IntoIter;
 use wsrep_base::{NoMemory, StateId};
+use wsrep_watch::Watcher;
 
 /// What a node shows at the end.
 #[derive(Drop)]
@@ -23,14 +25,17 @@ pub struct NodeEnd {
     pub rows: RowList,
 }
 
-/// Nodes over one group. They are numbered from 1.
+/// Nodes over one group, each with its watcher, if it has one. They are numbered from 1.
 #[derive(Drop)]
-pub struct Cluster<G: Group> {
+pub struct ClusterOf<G: Group, W: Watcher> {
     group: G,
-    seats: Vec<Seat>,
+    seats: Vec<Seat<W>>,
 }
 
-impl<G: Group> Model for Cluster<G> {
+/// Nodes whose watchers are in boxes.
+pub type Cluster<G> = ClusterOf<G, Box<dyn Watcher + Send>>;
+
+impl<G: Group, W: Watcher> Model for ClusterOf<G, W> {
     ghost use Rattle.cluster_core.specs.State.{ClusterState};
     ghost use Rattle.cluster_core.specs.Acts.{AreKept, nodes_of};
 
@@ -45,20 +50,22 @@ impl<G: Group> Model for Cluster<G> {
     ghost invariant = { λ c. AreKept (G.order c.group) c.seats.items };
 }
 
-impl<G: Group> Cluster<G> {
+impl<G: Group, W: Watcher> ClusterOf<G, W> {
     ghost use Rattle.cluster_core.specs.State.{end_at, end_rows};
     ghost use Rattle.node_laws.specs.Given.{given};
     ghost use Rattle.cluster_core.specs.Steps.{has_session, FailedBy, HasGroupCause};
 
-    /// So many nodes at their start, over a group at its start. The size of the ring of events, in
-    /// bytes, is not used yet.
+    /// So many nodes at their start, over a group at its start. Watcher i goes to node i; those
+    /// beyond the last node are told that they ended at 0, and dropped. The size of the ring of
+    /// events, in bytes, is not used yet.
     pub fn new(
         alloc: Global,
         group: G,
         id: StateId,
         nodes: u8,
         gcache: u64,
-    ) -> Result<Cluster<G>, NoMemory>
+        watch: Vec<W>,
+    ) -> Result<ClusterOf<G, W>, NoMemory>
         requires some { 1 ≤ nodes }
         requires few { nodes ≤ 9 }
         requires id { id ≢ nil_id }
@@ -69,8 +76,8 @@ impl<G: Group> Cluster<G> {
         ensures nodes { IfOk result (λ c. length c.model.nodes ≡ nodes) }
         ensures counts { IfOk result (λ c. given c.model ≡ 1) }
     {
-        let seats = seats_of(alloc, id, nodes, gcache)?;
-        Ok(Cluster { group, seats })
+        let seats = seats_of(alloc, id, nodes, gcache, watch)?;
+        Ok(ClusterOf { group, seats })
     }
 
     /// What a step of a node is answered.
@@ -111,10 +118,12 @@ impl<G: Group> Cluster<G> {
         requires { (1 ≤ step.now.node) × (step.now.node ≤ length self.now.model.nodes) }
         ensures { result ≡ will_order self.now.model step.now }
     {
-        let outbox = self.seats[usize::from(step.node) - 1].node.place().outbox;
+        let place = self.seats[usize::from(step.node) - 1].node.place();
         match step.act {
-            Act::Order => outbox.min(1),
-            Act::Drain => outbox,
+            Act::Order => place.outbox.min(1),
+            Act::Drain => place.outbox,
+            Act::Leave if has_left(place.phase) => 0,
+            Act::Leave => 1,
             _ => 0,
         }
     }
@@ -138,21 +147,38 @@ ghost use Rattle.std.specs.Prelude.{List, map};
 ghost use Rattle.std.specs.List.{AllByRecursion};
 ghost use Rattle.group_order.specs.Order.{up_to};
 ghost use Rattle.node_meaning.specs.Node.{start_node};
-ghost use Rattle.cluster_core.specs.Seated.{IsSeated};
+ghost use Rattle.cluster_core.specs.Seated.{IsSeated, seen};
 ghost use Rattle.cluster_core.specs.Acts.{nodes_of};
 
 // The seats of so many nodes at their start.
-fn seats_of(alloc: Global, id: StateId, nodes: u8, gcache: u64) -> Result<Vec<Seat>, NoMemory>
+fn seats_of<W: Watcher>(
+    alloc: Global,
+    id: StateId,
+    nodes: u8,
+    gcache: u64,
+    watch: Vec<W>,
+) -> Result<Vec<Seat<W>>, NoMemory>
     requires id { id ≢ nil_id }
     requires ring { gcache ≤ 16_777_216 }
     ensures nodes { IfOk result
         (λ seats. nodes_of seats.items ≡ map (start_node id) (up_to nodes)) }
     ensures seated { IfOk result
-        (λ seats. (order : List Ordered) → AllByRecursion (IsSeated order) seats.items) }
+        (λ seats. (order : List Ordered) → AllByRecursion (λ s. IsSeated order (seen s))
+        seats.items) }
 {
+    let mut watchers = watch.into_iter();
     let mut seats = Vec::new(alloc);
     for before in 0..nodes {
-        seats.push(Seat::new(alloc, id, u32::from(before) + 1, gcache)?)?;
+        let watcher = watchers.next();
+        seats.push(Seat::new(alloc, id, u32::from(before) + 1, gcache, watcher)?)?;
     }
+    end_all(watchers);
     Ok(seats)
+}
+
+// The watchers that no node has are told that they ended at 0, and dropped.
+fn end_all<W: Watcher>(watchers: IntoIter<W>) {
+    for mut watcher in watchers {
+        watcher.ended(0);
+    }
 }

@@ -7,5 +7,5 @@ mod fault;
 mod seat;
 mod steps;
 
-pub use cluster::{Cluster, NodeEnd};
+pub use cluster::{Cluster, ClusterOf, NodeEnd};
 pub use fault::StepFault;

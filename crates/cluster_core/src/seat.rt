@@ -1,22 +1,24 @@
 ghost use Rattle.std.specs.Prelude.{◌≡◌, ◌≢◌, ◌≤◌, ◌<◌, ◌^◌, List, IfOk, OnOk, OnErr, IsTrue};
 
 use apply_unit::Done;
-use node_core::{Advanced, Certified, Node, Reported, Started, Taken};
+use node_core::{Advanced, Certified, NodeOf, Reported, Started, Status, Taken};
+use node_meaning::Phase;
 use order_event::{Answer, Event};
 use row_model::Call;
 use std::alloc::Global;
 use std::collections::HashMap;
 use wsrep_base::{NoMemory, StateId};
+use wsrep_watch::Watcher;
 
 /// A node of a cluster, and what the work of its started units gives.
 #[derive(Drop)]
-pub(crate) struct Seat {
-    pub(crate) node: Node,
+pub(crate) struct Seat<W: Watcher> {
+    pub(crate) node: NodeOf<W>,
     // By the numbers of the units; an entry exactly where a unit is started and not finished.
     pub(crate) done: HashMap<u64, Done>,
 }
 
-impl Seat {
+impl<W: Watcher> Seat<W> {
     ghost use Rattle.wsrep_base.specs.StateId.{nil_id};
     ghost use Rattle.row_model.specs.Names.{call_fits};
     ghost use Rattle.order_event.specs.declared.event.Event.{Event as Ordered};
@@ -27,7 +29,7 @@ impl Seat {
     ghost use Rattle.node_core.specs.Stands.{plain_of};
     ghost use Rattle.node_core.specs.Memory.{CallWants, TakeWants, CertifyWants, StartWants, ReportWants};
     ghost use Rattle.node_laws.specs.Given.{CanGoOn};
-    ghost use Rattle.cluster_core.specs.Seated.{IsSeated, IsSomewhere, SeatDoes, SeatTakes, SeatUnchanged};
+    ghost use Rattle.cluster_core.specs.Seated.{IsSeated, IsSomewhere, SeatDoes, SeatTakes, SeatUnchanged, seen};
     ghost use Rattle.std.specs.HashMap.{spare};
 
     /// A node at its start, with no unit.
@@ -36,28 +38,29 @@ impl Seat {
         id: StateId,
         member: u32,
         gcache: u64,
-    ) -> Result<Seat, NoMemory>
+        watcher: Option<W>,
+    ) -> Result<Seat<W>, NoMemory>
         requires id { id ≢ nil_id }
         requires ring { gcache ≤ 16_777_216 }
-        ensures start { IfOk result (λ seat. plain_of seat.node ≡ start_node id member) }
-        ensures seated { IfOk result (λ seat. (order : List Ordered) → IsSeated order seat) }
+        ensures start { IfOk result (λ seat. plain_of seat.node.parts ≡ start_node id member) }
+        ensures seated { IfOk result (λ seat. (order : List Ordered) → IsSeated order (seen seat)) }
     {
         Ok(Seat {
-            node: Node::new(alloc, id, member, gcache)?,
+            node: NodeOf::new(alloc, id, member, gcache, watcher)?,
             done: HashMap::new(alloc),
         })
     }
 
     /// What a session's call is answered.
     pub(crate) fn client(&mut self, session: u8, call: &Call) -> Result<Answer, NoMemory>
-        requires seated { IsSomewhere self.old }
+        requires seated { IsSomewhere (seen self.old) }
         requires session { (1 ≤ session) × (session ≤ 32) }
         requires names { IsTrue (call_fits call.now) }
-        requires counts { CanGoOn (plain_of self.old.node) }
+        requires counts { CanGoOn (plain_of self.old.node.parts) }
         ensures ok { IfOk result (SeatDoes
-            (λ order n. node_step order n (act.Client session call.now)) self.old self.new) }
-        ensures err { OnErr result (SeatUnchanged self.old self.new) }
-        ensures memory { OnErr result (CallWants (plain_of self.old.node) session call.now) }
+            (λ order n. node_step order n (act.Client session call.now)) (seen self.old) (seen self.new)) }
+        ensures err { OnErr result (SeatUnchanged (seen self.old) (seen self.new)) }
+        ensures memory { OnErr result (CallWants (plain_of self.old.node.parts) session call.now) }
     {
         let reply = self.node.client(session, call)?;
         Ok(Answer::Client(reply))
@@ -65,12 +68,12 @@ impl Seat {
 
     /// The next event of the order is taken.
     pub(crate) fn take(&mut self, event: &Event) -> Result<Answer, NoMemory>
-        requires seated { IsSomewhere self.old }
-        requires number { self.old.node.at.taken < 2 ^ 63 }
+        requires seated { IsSomewhere (seen self.old) }
+        requires number { self.old.node.parts.at.taken < 2 ^ 63 }
         requires members { HasFewMembers event.now }
-        ensures ok { IfOk result (SeatTakes event.now self.old self.new) }
-        ensures err { OnErr result (SeatUnchanged self.old self.new) }
-        ensures memory { OnErr result (TakeWants (plain_of self.old.node)) }
+        ensures ok { IfOk result (SeatTakes event.now (seen self.old) (seen self.new)) }
+        ensures err { OnErr result (SeatUnchanged (seen self.old) (seen self.new)) }
+        ensures memory { OnErr result (TakeWants (plain_of self.old.node.parts)) }
     {
         let taken = self.node.take(event)?;
         Ok(taken_answer(taken))
@@ -78,11 +81,11 @@ impl Seat {
 
     /// The next event that was taken is certified.
     pub(crate) fn certify(&mut self) -> Result<Answer, NoMemory>
-        requires seated { IsSomewhere self.old }
+        requires seated { IsSomewhere (seen self.old) }
         ensures ok { IfOk result
-            (SeatDoes (λ order n. node_step order n act.Certify) self.old self.new) }
-        ensures err { OnErr result (SeatUnchanged self.old self.new) }
-        ensures memory { OnErr result (CertifyWants (plain_of self.old.node)) }
+            (SeatDoes (λ order n. node_step order n act.Certify) (seen self.old) (seen self.new)) }
+        ensures err { OnErr result (SeatUnchanged (seen self.old) (seen self.new)) }
+        ensures memory { OnErr result (CertifyWants (plain_of self.old.node.parts)) }
     {
         let certified = self.node.certify()?;
         Ok(certified_answer(certified))
@@ -90,13 +93,13 @@ impl Seat {
 
     /// The unit of the commit with this number is started, and its work done.
     pub(crate) fn start(&mut self, number: u64) -> Result<Answer, NoMemory>
-        requires seated { IsSomewhere self.old }
-        requires serial { self.old.node.at.serial < 2 ^ 63 }
+        requires seated { IsSomewhere (seen self.old) }
+        requires serial { self.old.node.parts.at.serial < 2 ^ 63 }
         ensures ok { IfOk result
-            (SeatDoes (λ order n. node_step order n (act.Start number)) self.old self.new) }
-        ensures err { OnErr result (SeatUnchanged self.old self.new) }
-        ensures memory { OnErr result ((order : List Ordered) → IsSeated order self.old →
-            StartWants order (plain_of self.old.node) number) }
+            (SeatDoes (λ order n. node_step order n (act.Start number)) (seen self.old) (seen self.new)) }
+        ensures err { OnErr result (SeatUnchanged (seen self.old) (seen self.new)) }
+        ensures memory { OnErr result ((order : List Ordered) → IsSeated order (seen self.old) →
+            StartWants order (plain_of self.old.node.parts) number) }
     {
         self.make_room(number)?;
         let started = self.node.start(number)?;
@@ -105,11 +108,11 @@ impl Seat {
 
     // Makes room for the work of the unit, where it can start.
     fn make_room(&mut self, number: u64) -> Result<(), NoMemory>
-        ensures room { OnOk result ((order : List Ordered) → IsSeated order self.old →
-            StartWants order (plain_of self.old.node) number → 0 < spare self.new.done) }
-        ensures same { SeatUnchanged self.old self.new }
-        ensures memory { OnErr result ((order : List Ordered) → IsSeated order self.old →
-            StartWants order (plain_of self.old.node) number) }
+        ensures room { OnOk result ((order : List Ordered) → IsSeated order (seen self.old) →
+            StartWants order (plain_of self.old.node.parts) number → 0 < spare self.new.done) }
+        ensures same { SeatUnchanged (seen self.old) (seen self.new) }
+        ensures memory { OnErr result ((order : List Ordered) → IsSeated order (seen self.old) →
+            StartWants order (plain_of self.old.node.parts) number) }
     {
         if self.node.can_start(number) {
             self.done.reserve(1)?;
@@ -119,9 +122,9 @@ impl Seat {
 
     /// The work of the unit with this number is given to the node.
     pub(crate) fn finish(&mut self, number: u64) -> Answer
-        requires seated { IsSomewhere self.old }
+        requires seated { IsSomewhere (seen self.old) }
         ensures { SeatDoes (λ order n. node_step order n (act.Finish number))
-            self.old self.new result }
+            (seen self.old) (seen self.new) result }
     {
         let Some(done) = self.done.remove(&number) else {
             return Answer::NoUnit(number);
@@ -134,19 +137,27 @@ impl Seat {
 
     /// The next number that was certified is committed.
     pub(crate) fn advance(&mut self) -> Answer
-        requires seated { IsSomewhere self.old }
-        ensures { SeatDoes (λ order n. node_step order n act.Advance) self.old self.new result }
+        requires seated { IsSomewhere (seen self.old) }
+        ensures { SeatDoes (λ order n. node_step order n act.Advance) (seen self.old) (seen self.new) result }
     {
         advanced_answer(self.node.advance())
     }
 
+    /// Where the node stands, and how much it keeps for certification.
+    pub(crate) fn status(&self) -> Answer
+        ensures { SeatDoes (λ order n. node_step order n act.Status)
+            (seen self.now) (seen self.now) result }
+    {
+        status_answer(self.node.status())
+    }
+
     /// What the node has committed is reported.
     pub(crate) fn report(&mut self) -> Result<Answer, NoMemory>
-        requires seated { IsSomewhere self.old }
+        requires seated { IsSomewhere (seen self.old) }
         ensures ok { IfOk result
-            (SeatDoes (λ order n. node_step order n act.Report) self.old self.new) }
-        ensures err { OnErr result (SeatUnchanged self.old self.new) }
-        ensures memory { OnErr result (ReportWants (plain_of self.old.node)) }
+            (SeatDoes (λ order n. node_step order n act.Report) (seen self.old) (seen self.new)) }
+        ensures err { OnErr result (SeatUnchanged (seen self.old) (seen self.new)) }
+        ensures memory { OnErr result (ReportWants (plain_of self.old.node.parts)) }
     {
         let reported = self.node.report()?;
         Ok(reported_answer(reported))
@@ -154,9 +165,20 @@ impl Seat {
 }
 
 ghost use Rattle.std.specs.HashMap.{spare};
-ghost use Rattle.node_core.specs.Answers.{taken_answer, certified_answer, started_answer, advanced_answer, reported_answer};
+ghost use Rattle.node_meaning.specs.Node.{is_left};
+ghost use Rattle.node_core.specs.Answers.{taken_answer, certified_answer, started_answer, advanced_answer, reported_answer, status_answer};
 ghost use Rattle.node_core.specs.Memory.{is_start};
 ghost use Rattle.cluster_core.specs.Seated.{KeepsTask};
+
+/// Whether a node has left its group.
+pub(crate) fn has_left(phase: Phase) -> bool
+    ensures { result ≡ is_left phase }
+{
+    match phase {
+        Phase::Left => true,
+        Phase::Joining | Phase::Connected => false,
+    }
+}
 
 fn taken_answer(taken: Taken) -> Answer
     ensures { result ≡ taken_answer taken }
@@ -195,6 +217,19 @@ fn reported_answer(reported: Reported) -> Answer
         Reported::Disconnected => Answer::Disconnected,
         Reported::NotSynced => Answer::NotSynced,
     }
+}
+
+fn status_answer(status: Status) -> Answer
+    ensures { result ≡ status_answer status }
+{
+    Answer::Status(
+        status.taken,
+        status.certified,
+        status.committed,
+        status.floor,
+        status.index,
+        status.open_trx,
+    )
 }
 
 // The work of a unit that was started is done and kept. There is room for it.

@@ -7,16 +7,18 @@ ghost use Rattle.node_core.specs.Stands.{plain_of};
 ghost use Rattle.node_laws.specs.Given.{CanGoOn};
 ghost use Rattle.cluster_core.specs.Steps.{has_session, FailedBy, HasGroupCause};
 ghost use Rattle.cluster_core.specs.Acts.{IsKept, AreKept, Acted, Failed, cluster_of, nodes_of};
+ghost use Rattle.cluster_core.specs.Seated.{seen};
 
 use crate::drain::drain;
 use crate::fault::StepFault;
-use crate::seat::Seat;
+use crate::seat::{Seat, has_left};
 use group_order::Group;
 use order_event::{Act, Answer};
+use wsrep_watch::Watcher;
 
 /// What a step of the node at this place is answered.
-pub(crate) fn step_at<G: Group>(
-    seats: &mut Vec<Seat>,
+pub(crate) fn step_at<G: Group, W: Watcher>(
+    seats: &mut Vec<Seat<W>>,
     at: usize,
     group: &mut G,
     act: &Act,
@@ -42,20 +44,20 @@ pub(crate) fn step_at<G: Group>(
 }
 
 /// What a step of the node is answered.
-pub(crate) fn step_on<G: Group>(
-    seat: &mut Seat,
+pub(crate) fn step_on<G: Group, W: Watcher>(
+    seat: &mut Seat<W>,
     group: &mut G,
     act: &Act,
 ) -> Result<Answer, StepFault>
-    requires kept { IsKept (G.order group.old) seat.old }
+    requires kept { IsKept (G.order group.old) (seen seat.old) }
     requires act { has_session act.now × IsTrue (act_fits act.now) }
-    requires events { length (G.order group.old) + node_orders act.now (plain_of seat.old.node)
+    requires events { length (G.order group.old) + node_orders act.now (plain_of seat.old.node.parts)
         ≤ 500_000 }
-    requires counts { CanGoOn (plain_of seat.old.node) }
+    requires counts { CanGoOn (plain_of seat.old.node.parts) }
     ensures ok { IfOk result
-        (Acted act.now (G.order group.old) (G.order group.new) seat.old seat.new) }
+        (Acted act.now (G.order group.old) (G.order group.new) (seen seat.old) (seen seat.new)) }
     ensures err { IfErr result
-        (Failed act.now (G.order group.old) (G.order group.new) seat.old seat.new) }
+        (Failed act.now (G.order group.old) (G.order group.new) (seen seat.old) (seen seat.new)) }
     ensures cause { HasGroupCause (G.faults group.old) (G.faults group.new) result }
 {
     match act {
@@ -68,22 +70,22 @@ pub(crate) fn step_on<G: Group>(
         Act::Advance => Ok(seat.advance()),
         Act::Drain => drain(seat, group),
         Act::Report => Ok(seat.report()?),
-        Act::Status => Ok(Answer::Nothing),
-        Act::Leave => Ok(Answer::Nothing),
+        Act::Status => Ok(seat.status()),
+        Act::Leave => leave(seat, group),
         Act::Join(_) => Ok(Answer::Nothing),
         Act::Transfer(_) => Ok(Answer::Nothing),
     }
 }
 
 /// The oldest message that waits takes the next number of the order.
-pub(crate) fn order_first<G: Group>(seat: &mut Seat, group: &mut G) -> Result<Answer, StepFault>
-    requires kept { IsKept (G.order group.old) seat.old }
-    requires events { length (G.order group.old) + node_orders act.Order (plain_of seat.old.node)
+pub(crate) fn order_first<G: Group, W: Watcher>(seat: &mut Seat<W>, group: &mut G) -> Result<Answer, StepFault>
+    requires kept { IsKept (G.order group.old) (seen seat.old) }
+    requires events { length (G.order group.old) + node_orders act.Order (plain_of seat.old.node.parts)
         ≤ 500_000 }
     ensures ok { IfOk result
-        (Acted act.Order (G.order group.old) (G.order group.new) seat.old seat.new) }
+        (Acted act.Order (G.order group.old) (G.order group.new) (seen seat.old) (seen seat.new)) }
     ensures err { IfErr result
-        (Failed act.Order (G.order group.old) (G.order group.new) seat.old seat.new) }
+        (Failed act.Order (G.order group.old) (G.order group.new) (seen seat.old) (seen seat.new)) }
     ensures cause { HasGroupCause (G.faults group.old) (G.faults group.new) result }
 {
     let member = seat.node.place().member;
@@ -95,15 +97,36 @@ pub(crate) fn order_first<G: Group>(seat: &mut Seat, group: &mut G) -> Result<An
     Ok(Answer::Ordered(number))
 }
 
+/// A view without the node's member is ordered, and the node leaves. Its watcher is told the end and
+/// dropped.
+fn leave<G: Group, W: Watcher>(seat: &mut Seat<W>, group: &mut G) -> Result<Answer, StepFault>
+    requires kept { IsKept (G.order group.old) (seen seat.old) }
+    requires events { length (G.order group.old)
+        + node_orders act.Leave (plain_of seat.old.node.parts) ≤ 500_000 }
+    ensures ok { IfOk result (Acted act.Leave (G.order group.old) (G.order group.new)
+        (seen seat.old) (seen seat.new)) }
+    ensures err { IfErr result (Failed act.Leave (G.order group.old) (G.order group.new)
+        (seen seat.old) (seen seat.new)) }
+    ensures cause { HasGroupCause (G.faults group.old) (G.faults group.new) result }
+{
+    let place = seat.node.place();
+    if has_left(place.phase) {
+        return Ok(Answer::Disconnected);
+    }
+    let number = group.leave(place.member)?;
+    let _watcher = seat.node.leave();
+    Ok(Answer::Left(number))
+}
+
 /// The next event of the order is taken, where there is one. A node that is not connected asks the
 /// group for none.
-pub(crate) fn take_next<G: Group>(seat: &mut Seat, group: &mut G) -> Result<Answer, StepFault>
-    requires kept { IsKept (G.order group.old) seat.old }
+pub(crate) fn take_next<G: Group, W: Watcher>(seat: &mut Seat<W>, group: &mut G) -> Result<Answer, StepFault>
+    requires kept { IsKept (G.order group.old) (seen seat.old) }
     requires events { length (G.order group.old) ≤ 500_000 }
     ensures ok { IfOk result
-        (Acted act.Take (G.order group.old) (G.order group.new) seat.old seat.new) }
+        (Acted act.Take (G.order group.old) (G.order group.new) (seen seat.old) (seen seat.new)) }
     ensures err { IfErr result
-        (Failed act.Take (G.order group.old) (G.order group.new) seat.old seat.new) }
+        (Failed act.Take (G.order group.old) (G.order group.new) (seen seat.old) (seen seat.new)) }
     ensures cause { HasGroupCause (G.faults group.old) (G.faults group.new) result }
 {
     if !seat.node.is_connected() {

@@ -63,4 +63,11 @@ impl Group for FailingGroup {
         }
         self.group.order(member, message)
     }
+
+    fn leave(&mut self, member: u32) -> Result<u64, GroupFault> {
+        if self.fails() {
+            return Err(GroupFault::Failed);
+        }
+        self.group.leave(member)
+    }
 }

@@ -1,4 +1,4 @@
-//! Tests of a cluster whose group fails at one call. It has nothing else.
+//! Tests of a cluster whose group fails at one call, and of watchers in boxes. It has nothing else.
 #![tactic(auto)]
 
 #[cfg(test)]
@@ -7,3 +7,5 @@ mod group;
 mod ids;
 #[cfg(test)]
 mod steps;
+#[cfg(test)]
+mod watched;

@@ -17,19 +17,23 @@ use std::process::Abort;
 use std::str::from_utf8;
 use std::test::Fail;
 use wsrep_base::ByteList;
+use wsrep_watch::Watcher;
 
-// Two nodes, and how many steps were done.
+/// Watchers in boxes.
+pub(crate) type BoxList = Vec<Box<dyn Watcher + Send>>;
+
+/// Two nodes, and how many steps were done.
 #[derive(Drop)]
-struct Run {
+pub(crate) struct Run {
     cluster: Cluster<FailingGroup>,
     done: u32,
     ghost own: { (length cluster.model.nodes ≡ 2) × (given cluster.model ≤ done + 1) },
 }
 
-fn begin(alloc: Global, failing: u64) -> Result<Run, Fail> {
+fn begin(alloc: Global, failing: u64, watch: BoxList) -> Result<Run, Fail> {
     let id = state_id().ok_or("no id")?;
     let group = FailingGroup::new(MemGroup::new(alloc, 2)?, failing);
-    let cluster = Cluster::new(alloc, group, id, 2, 0)?;
+    let cluster = Cluster::new(alloc, group, id, 2, 0, watch)?;
     Ok(Run { cluster, done: 0 })
 }
 
@@ -71,12 +75,24 @@ fn take_row(rt: &impl Abort, alloc: Global, run: Run, row: &str) -> Result<Run, 
     }
 }
 
-// The rows, where this call of the group fails.
-fn check_rows(rt: &impl Abort, alloc: Global, failing: u64, table: &str) -> Result<(), Fail> {
-    let mut run = begin(alloc, failing)?;
+/// The nodes behind the rows, where this call of the group fails.
+pub(crate) fn run_rows(
+    rt: &impl Abort,
+    alloc: Global,
+    failing: u64,
+    watch: BoxList,
+    table: &str,
+) -> Result<Run, Fail> {
+    let mut run = begin(alloc, failing, watch)?;
     for row in table.lines() {
         run = take_row(rt, alloc, run, row)?;
     }
+    Ok(run)
+}
+
+// The rows, where this call of the group fails and nobody watches.
+fn check_rows(rt: &impl Abort, alloc: Global, failing: u64, table: &str) -> Result<(), Fail> {
+    run_rows(rt, alloc, failing, Vec::new(alloc), table)?;
     Ok(())
 }
 
@@ -124,4 +140,19 @@ const DRAIN: &str = "\
 #[test]
 fn a_drain_that_only_ordered_is_ended_by_the_next(rt: HostRuntime) -> Result<(), Fail> {
     check_rows(&rt, rt.alloc(), 3, DRAIN)
+}
+
+// The second call orders the view.
+const LEAVE: &str = "\
+1 drain : AT 1
+1 leave : the group failed
+1 order : NOTHING
+1.1 begin : OK
+1 leave : LEFT 2
+1.1 poll : DISCONNECTED
+1 leave : DISCONNECTED";
+
+#[test]
+fn a_leave_that_failed_changed_nothing(rt: HostRuntime) -> Result<(), Fail> {
+    check_rows(&rt, rt.alloc(), 2, LEAVE)
 }

@@ -1,50 +1,49 @@
 -- The steps that may want memory, and those that do nothing.
 use Rattle.std.proofs.Common.{◌≡◌, refl}
 use Rattle.order_event.specs.declared.step.Act.TheVariants as act
+use Rattle.cluster_core.specs.Seated.{seen}
 use Rattle.cluster_core.specs.declared.fault.StepFault.TheVariants as fault
-use Rattle.cluster_core.proofs.ActLaws.{acted_nothing, err_by, client_failed, certify_failed, start_failed, report_failed}
+use Rattle.cluster_core.proofs.ActLaws.{acted_does, acted_nothing, err_by, client_failed, certify_failed, start_failed, report_failed}
 use Rattle.cluster_core.proofs.steps.step_on.Goals as goal
 
 pub returns-in-Status-clause-ok : goal.returns-in-Status-clause-ok
 returns-in-Status-clause-ok g c =
-    rw c.in-Status.is (acted_nothing act.Status (g.G.Group.order c.args.group.now) c.args.seat.now c.requires.kept (λ _ _ _. refl))
-
-pub returns-in-Leave-clause-ok : goal.returns-in-Leave-clause-ok
-returns-in-Leave-clause-ok g c =
-    rw c.in-Leave.is (acted_nothing act.Leave (g.G.Group.order c.args.group.now) c.args.seat.now c.requires.kept (λ _ _ _. refl))
+    rw c.in-Status.is
+    (acted_does act.Status (g.G.Group.order c.args.group.now) (seen c.args.seat.now) c.requires.kept (seen c.args.seat.now) c.status.result
+    c.status.ensures (λ _ _ _. refl))
 
 pub returns-in-Join-clause-ok : goal.returns-in-Join-clause-ok
 returns-in-Join-clause-ok g c =
-    rw c.in-Join.is (acted_nothing (act.Join _) (g.G.Group.order c.args.group.now) c.args.seat.now c.requires.kept (λ _ _ _. refl))
+    rw c.in-Join.is (acted_nothing (act.Join _) (g.G.Group.order c.args.group.now) (seen c.args.seat.now) c.requires.kept (λ _ _ _. refl))
 
 pub returns-in-Transfer-clause-ok : goal.returns-in-Transfer-clause-ok
 returns-in-Transfer-clause-ok g c =
-    rw c.in-Transfer.is (acted_nothing (act.Transfer _) (g.G.Group.order c.args.group.now) c.args.seat.now c.requires.kept (λ _ _ _. refl))
+    rw c.in-Transfer.is (acted_nothing (act.Transfer _) (g.G.Group.order c.args.group.now) (seen c.args.seat.now) c.requires.kept (λ _ _ _. refl))
 
 pub returns-in_err-client-in-Client-clause-err : goal.returns-in_err-client-in-Client-clause-err
 returns-in_err-client-in-Client-clause-err g c =
     err_by _ _ c.from_residual.result c.from_residual.ensures.1 (λ e from.
     let none : e ≡ fault.NoMemory = cc in
-    client_failed (g.G.Group.order c.args.group.now) c.args.seat.now c.requires.kept c.client.new.self c.in_err-client-in-Client.ensures.err
+    client_failed (g.G.Group.order c.args.group.now) (seen c.args.seat.now) c.requires.kept (seen c.client.new.self) c.in_err-client-in-Client.ensures.err
     c.args.act.now e none _ _ c.in-Client.is c.in_err-client-in-Client.ensures.memory)
 
 pub returns-in_err-certify-in-Certify-clause-err : goal.returns-in_err-certify-in-Certify-clause-err
 returns-in_err-certify-in-Certify-clause-err g c =
     err_by _ _ c.from_residual-in_err-certify-in-Certify.result c.from_residual-in_err-certify-in-Certify.ensures.1 (λ e from.
     let none : e ≡ fault.NoMemory = cc in
-    certify_failed (g.G.Group.order c.args.group.now) c.args.seat.now c.requires.kept c.certify.new.self c.in_err-certify-in-Certify.ensures.err
+    certify_failed (g.G.Group.order c.args.group.now) (seen c.args.seat.now) c.requires.kept (seen c.certify.new.self) c.in_err-certify-in-Certify.ensures.err
     c.args.act.now e none c.in-Certify.is c.in_err-certify-in-Certify.ensures.memory)
 
 pub returns-in_err-start-in-Start-clause-err : goal.returns-in_err-start-in-Start-clause-err
 returns-in_err-start-in-Start-clause-err g c =
     err_by _ _ c.from_residual-in_err-start-in-Start.result c.from_residual-in_err-start-in-Start.ensures.1 (λ e from.
     let none : e ≡ fault.NoMemory = cc in
-    start_failed (g.G.Group.order c.args.group.now) c.args.seat.now c.requires.kept c.start.new.self c.in_err-start-in-Start.ensures.err
+    start_failed (g.G.Group.order c.args.group.now) (seen c.args.seat.now) c.requires.kept (seen c.start.new.self) c.in_err-start-in-Start.ensures.err
     c.args.act.now e none _ c.in-Start.is c.in_err-start-in-Start.ensures.memory)
 
 pub returns-in_err-report-in-Report-clause-err : goal.returns-in_err-report-in-Report-clause-err
 returns-in_err-report-in-Report-clause-err g c =
     err_by _ _ c.from_residual-in_err-report-in-Report.result c.from_residual-in_err-report-in-Report.ensures.1 (λ e from.
     let none : e ≡ fault.NoMemory = cc in
-    report_failed (g.G.Group.order c.args.group.now) c.args.seat.now c.requires.kept c.report.new.self c.in_err-report-in-Report.ensures.err
+    report_failed (g.G.Group.order c.args.group.now) (seen c.args.seat.now) c.requires.kept (seen c.report.new.self) c.in_err-report-in-Report.ensures.err
     c.args.act.now e none c.in-Report.is c.in_err-report-in-Report.ensures.memory)

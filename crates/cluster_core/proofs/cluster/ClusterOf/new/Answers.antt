@@ -4,7 +4,7 @@ use Rattle.node_meaning.specs.Cluster.{ModelCluster}
 use Rattle.node_laws.specs.Given.{given}
 use Rattle.node_laws.proofs.GivenLaws.{given_at_start, nodes_at_start}
 use Rattle.cluster_core.proofs.ActLaws.{kept_start, cluster_start}
-use Rattle.cluster_core.proofs.cluster.Cluster.new.Goals as goal
+use Rattle.cluster_core.proofs.cluster.ClusterOf.new.Goals as goal
 
 pub invariant_of-result : goal.invariant_of-result
 invariant_of-result g c =

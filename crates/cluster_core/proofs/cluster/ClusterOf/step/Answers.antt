@@ -6,7 +6,7 @@ use Rattle.node_laws.specs.Given.{given}
 use Rattle.cluster_core.proofs.ActLaws.{if_ok, cluster_done, cluster_failed}
 use Rattle.node_laws.proofs.GivenLaws.{node_goes_on}
 use Rattle.cluster_core.proofs.CountedLaws.{given_after, nodes_after, events_after}
-use Rattle.cluster_core.proofs.cluster.Cluster.step.Goals as goal
+use Rattle.cluster_core.proofs.cluster.ClusterOf.step.Goals as goal
 
 pub step_at-requires-clause-counts : goal.step_at-requires-clause-counts
 step_at-requires-clause-counts g c =

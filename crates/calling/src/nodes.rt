@@ -1,0 +1,1 @@
+//! Two nodes over a group in memory, and what their steps are answered.
