@@ -3,22 +3,20 @@ use Rattle.std.proofs.Common.{◌≡◌, ℕ, suc, ◌+◌, ◌<◌, ◌≤◌, 
 use Rattle.std.specs.Prelude.{slice_get}
 use Rattle.std.specs.List.{AllByRecursion, filter}
 use Rattle.finite_map.specs.FiniteMap.{get}
-use Rattle.row_model.specs.declared.calls.Reply.{Reply}
 use Rattle.order_event.specs.declared.event.Event.{Event}
 use Rattle.order_event.specs.declared.event.Event.TheVariants as event
-use Rattle.order_event.specs.declared.event.Message.{Message}
 use Rattle.order_event.specs.declared.step.Act.TheVariants as act
 use Rattle.order_event.specs.declared.step.Answer.{Answer}
 use Rattle.order_event.specs.declared.step.Answer.TheVariants as answer
 use Rattle.order_event.specs.Spelling.{HasFewMembers}
 use Rattle.group_order.specs.Order.{newer_view, last_view, all_but, view_without}
-use Rattle.client_trx.specs.Live.{Live}
 use Rattle.node_meaning.specs.Node.{ModelNode, is_left}
-use Rattle.node_meaning.specs.Leaving.{ended_where, leave_one, sessions_left, left_node, told_at_leave, waits_in}
+use Rattle.node_meaning.specs.Leaving.{left_node}
 use Rattle.node_meaning.specs.Cluster.{ModelCluster, set_at, leave, leave_now, step_of}
 use Rattle.node_core.specs.declared.node.NodeParts.{NodeParts}
 use Rattle.node_core.specs.Answers.{is_started}
 use Rattle.node_core.specs.Stands.{DoneOver, plain_of, quietly}
+use Rattle.node_laws.proofs.StartedUnits.{left_units}
 use Rattle.cluster_core.specs.declared.fault.StepFault.{StepFault}
 use Rattle.cluster_core.specs.declared.fault.StepFault.TheVariants as fault
 use Rattle.cluster_core.specs.Seated.{Seat, IsSeated, work_of}
@@ -50,22 +48,6 @@ few_left : (order : List Event) (member : ℕ) → AllByRecursion HasFewMembers 
 few_left order member all =
     omega (arith, not_more _ (last_view order).1, few_last order (0, []) (omega arith) all)
 
--- ---- the units stay
-one_left : (n : ModelNode) (session : ℕ) (o : Option Reply) → (ended_where n session o).units ≡ n.units
-one_left n session None = refl
-one_left n session (Some reply) = refl
-
-each_left : (queue : List Message) (n : ModelNode) (entries : List (ℕ × Live))
-    → (fold (leave_one queue) n entries).units ≡ n.units
-each_left queue n [] = refl
-each_left queue n (e ∷ entries) =
-    each_left queue (leave_one queue n e) entries
-    ∙ one_left n e.0 (told_at_leave (waits_in queue e.1) e.1.status)
-
-units_left : (n : ModelNode) → (left_node n).units ≡ n.units
-unfolding left_node sessions_left
-units_left n = each_left (n.ordered ++ n.outbox) n n.live.entries
-
 -- ---- the step
 pub left_already : (order : List Event) (old : Seat) → is_left old.node.at.phase ≡ true
     → IsKept order old → Acted act.Leave order order old old answer.Disconnected
@@ -90,7 +72,7 @@ left_now before now old node number here is counts d kept =
     let seated : IsSeated before new = record {
       stands = d.stands;
       work = λ k. kept.seated.work k
-          ∙ ap (λ us. work_of before k (is_started (get us k))) (sym (units_left (plain_of old.node)))
+          ∙ ap (λ us. work_of before k (is_started (get us k))) (sym (left_units (plain_of old.node)))
           ∙ ap (λ (n : ModelNode). work_of before k (is_started (get n.units k))) (sym left);
     } in
     let long : number ≡ length before + 1 = counts ∙ ap length is ∙ length-append before (view ∷ []) in
