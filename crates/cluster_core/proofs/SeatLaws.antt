@@ -17,6 +17,7 @@ use Rattle.order_event.specs.declared.step.Answer.{Answer}
 use Rattle.order_event.specs.declared.step.Answer.TheVariants as answer
 use Rattle.node_meaning.specs.declared.progress.Stage.TheVariants.{Started as StartedStage}
 use Rattle.node_meaning.specs.Node.{ModelNode, ApplyUnit, start_node}
+use Rattle.node_meaning.specs.Status.{status_step}
 use Rattle.node_meaning.specs.Client.{client}
 use Rattle.node_meaning.specs.Units.{unit_task}
 use Rattle.node_meaning.specs.Steps.{start_step, finish_step, take_step, certify_step, advance_step, report_step, node_step}
@@ -113,6 +114,11 @@ pub report_does : (order : List Event) (old : Seat) (node : NodeParts) (a : Answ
 report_does order old node a d s =
     seat_does order (λ n. report_step n) old node a d
     (λ k. at_number k (report_step (plain_of old.node)).1 (plain_of old.node) (report_units order (plain_of old.node))) s
+
+pub status_does : (order : List Event) (seat : Seat) (a : Answer) → a ≡ (status_step order (plain_of seat.node)).0
+    → IsSeated order seat → SeatDone order (λ n. node_step order n act.Status) seat seat a
+unfolding status_step
+status_does order seat a is s = record { same = ap (λ x. (x, plain_of seat.node)) is; seated = s }
 
 -- ---- more room for work, which leaves all as it was
 pub roomy : (old new : Seat) → new.node ≡ old.node → ((k : ℕ) → kept_at new.done k ≡ kept_at old.done k) → SeatUnchanged old new

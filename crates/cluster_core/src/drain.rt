@@ -19,7 +19,10 @@ use wsrep_watch::Watcher;
 
 /// All that waits is ordered, and then everything is taken, certified and committed. A fault on
 /// the way leaves what was done before it.
-pub(crate) fn drain<G: Group, W: Watcher>(seat: &mut Seat<W>, group: &mut G) -> Result<Answer, StepFault>
+pub(crate) fn drain<G: Group, W: Watcher>(
+    seat: &mut Seat<W>,
+    group: &mut G,
+) -> Result<Answer, StepFault>
     requires kept { IsKept (G.order group.old) (seen seat.old) }
     requires events { length (G.order group.old) + node_orders act.Drain (plain_of seat.old.node.parts)
         ≤ 500_000 }
@@ -42,7 +45,11 @@ pub(crate) fn drain<G: Group, W: Watcher>(seat: &mut Seat<W>, group: &mut G) -> 
 }
 
 // So many messages take the next numbers of the order, the oldest first.
-fn order_all<G: Group, W: Watcher>(seat: &mut Seat<W>, group: &mut G, count: u64) -> Result<(), StepFault>
+fn order_all<G: Group, W: Watcher>(
+    seat: &mut Seat<W>,
+    group: &mut G,
+    count: u64,
+) -> Result<(), StepFault>
     requires kept { IsKept (G.order group.old) (seen seat.old) }
     requires events { length (G.order group.old) + length seat.old.node.parts.queue.outbox ≤ 500_000 }
     ensures ok { OnOk result
@@ -78,7 +85,11 @@ fn take_rest<G: Group, W: Watcher>(
 }
 
 // So many events are taken.
-fn take_all<G: Group, W: Watcher>(seat: &mut Seat<W>, group: &mut G, count: u64) -> Result<(), StepFault>
+fn take_all<G: Group, W: Watcher>(
+    seat: &mut Seat<W>,
+    group: &mut G,
+    count: u64,
+) -> Result<(), StepFault>
     requires kept { IsKept (G.order group.old) (seen seat.old) }
     requires events { length (G.order group.old) ≤ 500_000 }
     ensures order { G.order group.new ≡ G.order group.old }

@@ -1,4 +1,4 @@
-ghost use Rattle.std.specs.Prelude.{◌≡◌, ◌≢◌, ◌≤◌, ◌<◌, ◌^◌, List, IfOk, OnOk, OnErr, IsTrue};
+ghost use Rattle.std.specs.Prelude.{◌≡◌, ◌≢◌, ◌≤◌, ◌<◌, ◌^◌, List, length, IfOk, OnOk, OnErr, IsTrue};
 
 use apply_unit::Done;
 use node_core::{Advanced, Certified, NodeOf, Reported, Started, Status, Taken};
@@ -29,7 +29,7 @@ impl<W: Watcher> Seat<W> {
     ghost use Rattle.node_core.specs.Stands.{plain_of};
     ghost use Rattle.node_core.specs.Memory.{CallWants, TakeWants, CertifyWants, StartWants, ReportWants};
     ghost use Rattle.node_laws.specs.Given.{CanGoOn};
-    ghost use Rattle.cluster_core.specs.Seated.{IsSeated, IsSomewhere, SeatDoes, SeatTakes, SeatUnchanged, seen};
+    ghost use Rattle.cluster_core.specs.Seated.{IsSeated, IsSomewhere, SeatDoes, SeatDone, SeatTakes, SeatUnchanged, seen};
     ghost use Rattle.std.specs.HashMap.{spare};
 
     /// A node at its start, with no unit.
@@ -145,8 +145,10 @@ impl<W: Watcher> Seat<W> {
 
     /// Where the node stands, and how much it keeps for certification.
     pub(crate) fn status(&self) -> Answer
-        ensures { SeatDoes (λ order n. node_step order n act.Status)
-            (seen self.now) (seen self.now) result }
+        requires seated { IsSomewhere (seen self.now) }
+        ensures { (order : List Ordered) → length order ≤ 500_000
+            → IsSeated order (seen self.now) → SeatDone order
+            (λ n. node_step order n act.Status) (seen self.now) (seen self.now) result }
     {
         status_answer(self.node.status())
     }

@@ -78,7 +78,10 @@ pub(crate) fn step_on<G: Group, W: Watcher>(
 }
 
 /// The oldest message that waits takes the next number of the order.
-pub(crate) fn order_first<G: Group, W: Watcher>(seat: &mut Seat<W>, group: &mut G) -> Result<Answer, StepFault>
+pub(crate) fn order_first<G: Group, W: Watcher>(
+    seat: &mut Seat<W>,
+    group: &mut G,
+) -> Result<Answer, StepFault>
     requires kept { IsKept (G.order group.old) (seen seat.old) }
     requires events { length (G.order group.old) + node_orders act.Order (plain_of seat.old.node.parts)
         ≤ 500_000 }
@@ -120,7 +123,10 @@ fn leave<G: Group, W: Watcher>(seat: &mut Seat<W>, group: &mut G) -> Result<Answ
 
 /// The next event of the order is taken, where there is one. A node that is not connected asks the
 /// group for none.
-pub(crate) fn take_next<G: Group, W: Watcher>(seat: &mut Seat<W>, group: &mut G) -> Result<Answer, StepFault>
+pub(crate) fn take_next<G: Group, W: Watcher>(
+    seat: &mut Seat<W>,
+    group: &mut G,
+) -> Result<Answer, StepFault>
     requires kept { IsKept (G.order group.old) (seen seat.old) }
     requires events { length (G.order group.old) ≤ 500_000 }
     ensures ok { IfOk result

@@ -51,7 +51,8 @@ impl Drop for Counted {
             seen.notes.fetch_add(1, Ordering::SeqCst);
             seen.numbers.fetch_add(note.number, Ordering::SeqCst);
         }
-        seen.ends.fetch_add(list.end().unwrap_or(1000), Ordering::SeqCst);
+        seen.ends
+            .fetch_add(list.end().unwrap_or(1000), Ordering::SeqCst);
         seen.drops.fetch_add(1, Ordering::SeqCst);
     }
 }
@@ -89,9 +90,7 @@ const LEAVE: &str = "\
 1 leave : LEFT 3";
 
 #[test]
-fn a_watcher_hears_each_number_once_and_its_end_at_the_leave(
-    rt: HostRuntime,
-) -> Result<(), Fail> {
+fn a_watcher_hears_each_number_once_and_its_end_at_the_leave(rt: HostRuntime) -> Result<(), Fail> {
     let seen = Arc::new(rt.alloc(), Seen::new())?;
     let mut watch = Vec::new(rt.alloc());
     for _ in 0..3 {

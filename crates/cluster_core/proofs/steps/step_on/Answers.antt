@@ -1,16 +1,17 @@
 -- The steps that may want memory, and those that do nothing.
-use Rattle.std.proofs.Common.{◌≡◌, refl}
+use Rattle.std.proofs.Common.{◌≡◌, refl, arith}
 use Rattle.order_event.specs.declared.step.Act.TheVariants as act
 use Rattle.cluster_core.specs.Seated.{seen}
 use Rattle.cluster_core.specs.declared.fault.StepFault.TheVariants as fault
-use Rattle.cluster_core.proofs.ActLaws.{acted_does, acted_nothing, err_by, client_failed, certify_failed, start_failed, report_failed}
+use Rattle.cluster_core.proofs.ActLaws.{acted_alone, acted_nothing, err_by, client_failed, certify_failed, start_failed, report_failed}
 use Rattle.cluster_core.proofs.steps.step_on.Goals as goal
 
 pub returns-in-Status-clause-ok : goal.returns-in-Status-clause-ok
 returns-in-Status-clause-ok g c =
     rw c.in-Status.is
-    (acted_does act.Status (g.G.Group.order c.args.group.now) (seen c.args.seat.now) c.requires.kept (seen c.args.seat.now) c.status.result
-    c.status.ensures (λ _ _ _. refl))
+    (acted_alone act.Status (g.G.Group.order c.args.group.now) (seen c.args.seat.now) c.requires.kept (seen c.args.seat.now) c.status.result
+    (c.status.ensures (g.G.Group.order c.args.group.now) (let few = c.requires.events in omega (arith, few)) c.requires.kept.seated)
+    (λ _ _ _. refl))
 
 pub returns-in-Join-clause-ok : goal.returns-in-Join-clause-ok
 returns-in-Join-clause-ok g c =
