@@ -42,3 +42,29 @@ fn main(rt: HostRuntime) -> Result<()> {
     }
     Ok(())
 }
+
+ghost use Rattle.std.specs.Prelude.{◌≡◌, length};
+ghost use Rattle.node_laws.specs.Given.{given};
+
+// Session 1 of node 1 inserts a row and commits it; then that node leaves, and the other one goes on.
+fn run(rt: HostRuntime, cluster: &mut Cluster<MemGroup>) -> Result<()>
+    requires nodes { length cluster.old.model.nodes ≡ 2 }
+    requires counts { given cluster.old.model ≡ 1 }
+    ensures nodes { length cluster.new.model.nodes ≡ 2 }
+{
+    let row = Row::of(&[100]).context("a row has 1 to 8 values")?;
+    say(rt, 1, &step(cluster, 1, Act::Drain)?)?;
+    say(rt, 2, &step(cluster, 2, Act::Drain)?)?;
+    say(rt, 1, &step(cluster, 1, Act::Client(1, Call::Begin(0)))?)?;
+    say(rt, 1, &step(cluster, 1, Act::Client(1, Call::Insert(ACCOUNT, row)))?)?;
+    say(rt, 1, &step(cluster, 1, Act::Client(1, Call::Commit))?)?;
+    say(rt, 1, &step(cluster, 1, Act::Drain)?)?;
+    say(rt, 1, &step(cluster, 1, Act::Client(1, Call::Poll))?)?;
+    say(rt, 1, &step(cluster, 1, Act::Leave)?)?;
+    say(rt, 2, &step(cluster, 2, Act::Drain)?)
+}
+
+fn say(rt: HostRuntime, node: u8, answer: &Answer) -> Result<()> {
+    println!(rt; "node {}: {:?}", node, answer)?;
+    Ok(())
+}
