@@ -6,8 +6,8 @@ ghost use Rattle.node_meaning.specs.Cluster.{will_order};
 ghost use Rattle.galera_run.specs.Reading.{most_events, behind, opened_at, stepped_at, line_at};
 ghost use Rattle.galera_run.specs.Feeding.{Stands, IsRoomFor, FailsAs, IsHeaderOf, IsOpenedBy, IsCounted};
 
-use crate::place::{Opened, Place};
-use cluster_core::{Cluster, StepFault};
+use crate::place::{Opened, Place, Unwatched};
+use cluster_core::{ClusterOf, StepFault};
 use group_order::MemGroup;
 use order_event::{Answer, Step};
 use script_text::{Header, Line, ScriptCause, parse_first, parse_line};
@@ -86,7 +86,14 @@ fn begin(alloc: Global, header: &Header) -> Result<Opened, NoMemory>
     let group = MemGroup::new(alloc, u32::from(header.nodes))?;
     Ok(Opened {
         nodes: header.nodes,
-        cluster: Cluster::new(alloc, group, header.id, header.nodes, header.gcache)?,
+        cluster: ClusterOf::new(
+            alloc,
+            group,
+            header.id,
+            header.nodes,
+            header.gcache,
+            Vec::new(alloc),
+        )?,
     })
 }
 
@@ -143,7 +150,7 @@ fn run_step(
 }
 
 // Whether the events that the step is going to order pass the limit.
-fn passes_events(cluster: &Cluster<MemGroup>, step: &Step) -> bool
+fn passes_events(cluster: &Unwatched, step: &Step) -> bool
     requires node { (1 ≤ step.now.node) × (step.now.node ≤ length cluster.now.model.nodes) }
     requires events { length cluster.now.model.order ≤ most_events }
     ensures { result

@@ -7,9 +7,10 @@ ghost use Rattle.galera_run.specs.Load.{load_start, load_run, load_summary, node
 ghost use Rattle.galera_run.specs.Replicated.{LoadReplicates};
 
 use crate::fault::{Finished, RunFault};
+use crate::place::Unwatched;
 use crate::print::print_lines;
 use crate::workload::Workload;
-use cluster_core::{Cluster, StepFault};
+use cluster_core::{ClusterOf, StepFault};
 use group_order::MemGroup;
 use order_event::Step;
 use outside_io::Sink;
@@ -67,7 +68,7 @@ fn summary(alloc: Global, seed: u64, count: u64) -> Result<(ByteList, Finished),
 }
 
 // Appends the line of each node.
-fn put_sums(text: &mut ByteList, cluster: &Cluster<MemGroup>) -> Result<(), NoMemory>
+fn put_sums(text: &mut ByteList, cluster: &Unwatched) -> Result<(), NoMemory>
     requires { length cluster.now.model.nodes ≡ 3 }
     ensures { OnOk result (text.new ≡ text.old ++ nodes_sum cluster.now.model 3) }
 {
@@ -100,7 +101,14 @@ fn begin(alloc: Global) -> Result<Workload, NoMemory>
 {
     let group = MemGroup::new(alloc, u32::from(NODES))?;
     Ok(Workload {
-        cluster: Cluster::new(alloc, group, StateId::of_bytes(ID), NODES, RING)?,
+        cluster: ClusterOf::new(
+            alloc,
+            group,
+            StateId::of_bytes(ID),
+            NODES,
+            RING,
+            Vec::new(alloc),
+        )?,
         counts: LoadCounts::new(),
         steps: 0,
     })

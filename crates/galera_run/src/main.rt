@@ -28,12 +28,19 @@ use std::process::ExitCode;
 
 fn main(rt: HostRuntime) -> ExitCode {
     let status = match words_of(rt.alloc(), env::args(&rt)) {
-        Ok(words) => {
-            let mut input = StdSource::new(rt.stdin());
-            let mut out = StdSink::new(rt.stdout());
-            galera_steps(rt.alloc(), &words, &mut input, &mut out)
-        }
+        Ok(words) => run_words(rt, &words),
         Err(_) => 6,
     };
     ExitCode::from(status)
+}
+
+// Does the command over standard input and output.
+fn run_words(rt: HostRuntime, words: &[String]) -> u8 {
+    match StdSink::new(rt.alloc(), rt.stdout()) {
+        Ok(mut out) => {
+            let mut input = StdSource::new(rt.stdin());
+            galera_steps(rt.alloc(), words, &mut input, &mut out)
+        }
+        Err(_) => 6,
+    }
 }

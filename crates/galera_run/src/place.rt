@@ -1,12 +1,16 @@
-use cluster_core::Cluster;
+use cluster_core::ClusterOf;
 use group_order::MemGroup;
+use wsrep_watch::ListWatcher;
+
+/// Nodes over a group in memory, whom nobody watches.
+pub type Unwatched = ClusterOf<MemGroup, ListWatcher>;
 
 /// The cluster of a schedule, once its header came.
 #[derive(Drop)]
 pub struct Opened {
     /// The number of nodes.
     pub nodes: u8,
-    pub cluster: Cluster<MemGroup>,
+    pub cluster: Unwatched,
 }
 
 /// Where a run over the lines of a schedule stands.

@@ -1,11 +1,10 @@
-use cluster_core::Cluster;
-use group_order::MemGroup;
+use crate::place::Unwatched;
 use report_text::LoadCounts;
 
 /// A workload as it runs.
 #[derive(Drop)]
 pub struct Workload {
-    pub cluster: Cluster<MemGroup>,
+    pub cluster: Unwatched,
     /// What its steps were answered.
     pub counts: LoadCounts,
     /// How many steps were run.

@@ -17,6 +17,7 @@ pub mod ReportCalls
 pub mod Standing
 pub mod StartCalls
 pub mod Statements
+pub mod StatusCalls
 pub mod TabledWrites
 pub mod Tabling
 pub mod TakeCalls
