@@ -7,15 +7,12 @@ mod nodes;
 mod teller;
 
 use anyhow::{Context, Result};
-use cluster_core::Cluster;
-use group_order::MemGroup;
-use nodes::{open, step};
+use nodes::{Nodes, open, step};
 use order_event::{Act, Answer};
 use row_model::{Call, Row, RowId};
 use std::sync::Arc;
 use std::sync::atomic::{AtomicU64, Ordering};
 use teller::Teller;
-use wsrep_watch::Watcher;
 
 // Account a of table acct. Names are padded with zero bytes.
 const ACCOUNT: RowId = RowId {
@@ -25,14 +22,10 @@ const ACCOUNT: RowId = RowId {
 
 fn main(rt: HostRuntime) -> Result<()> {
     let heard = Arc::new(rt.alloc(), AtomicU64::new(0))?;
-    let teller: Box<dyn Watcher + Send> = Box::new(
-        rt.alloc(),
-        Teller {
-            heard: Arc::try_clone(&heard)?,
-        },
-    )?;
     let mut watch = Vec::new(rt.alloc());
-    watch.push(teller)?;
+    watch.push(Teller {
+        heard: Arc::try_clone(&heard)?,
+    })?;
     let mut cluster = open(rt.alloc(), watch)?;
     run(rt, &mut cluster)?;
     println!(rt; "node 1 committed {} events", heard.load(Ordering::SeqCst))?;
@@ -47,7 +40,7 @@ ghost use Rattle.std.specs.Prelude.{◌≡◌, length};
 ghost use Rattle.node_laws.specs.Given.{given};
 
 // Session 1 of node 1 inserts a row and commits it; then that node leaves, and the other one goes on.
-fn run(rt: HostRuntime, cluster: &mut Cluster<MemGroup>) -> Result<()>
+fn run(rt: HostRuntime, cluster: &mut Nodes) -> Result<()>
     requires nodes { length cluster.old.model.nodes ≡ 2 }
     requires counts { given cluster.old.model ≡ 1 }
     ensures nodes { length cluster.new.model.nodes ≡ 2 }
@@ -56,7 +49,11 @@ fn run(rt: HostRuntime, cluster: &mut Cluster<MemGroup>) -> Result<()>
     say(rt, 1, &step(cluster, 1, Act::Drain)?)?;
     say(rt, 2, &step(cluster, 2, Act::Drain)?)?;
     say(rt, 1, &step(cluster, 1, Act::Client(1, Call::Begin(0)))?)?;
-    say(rt, 1, &step(cluster, 1, Act::Client(1, Call::Insert(ACCOUNT, row)))?)?;
+    say(
+        rt,
+        1,
+        &step(cluster, 1, Act::Client(1, Call::Insert(ACCOUNT, row)))?,
+    )?;
     say(rt, 1, &step(cluster, 1, Act::Client(1, Call::Commit))?)?;
     say(rt, 1, &step(cluster, 1, Act::Drain)?)?;
     say(rt, 1, &step(cluster, 1, Act::Client(1, Call::Poll))?)?;

@@ -7,7 +7,7 @@ ghost use Rattle.script_text.specs.Steps.{IsStepOf};
 
 use crate::group::FailingGroup;
 use crate::ids::state_id;
-use cluster_core::{Cluster, StepFault};
+use cluster_core::{ClusterOf, StepFault};
 use group_order::MemGroup;
 use order_event::{Answer, Step};
 use report_text::put_answer;
@@ -17,28 +17,28 @@ use std::process::Abort;
 use std::str::from_utf8;
 use std::test::Fail;
 use wsrep_base::ByteList;
-use wsrep_watch::Watcher;
-
-/// Watchers in boxes.
-pub(crate) type BoxList = Vec<Box<dyn Watcher + Send>>;
+use wsrep_watch::{ListWatcher, Watcher};
 
 /// Two nodes, and how many steps were done.
 #[derive(Drop)]
-pub(crate) struct Run {
-    cluster: Cluster<FailingGroup>,
+pub(crate) struct Run<W: Watcher> {
+    cluster: ClusterOf<FailingGroup, W>,
     done: u32,
     ghost own: { (length cluster.model.nodes ≡ 2) × (given cluster.model ≤ done + 1) },
 }
 
-fn begin(alloc: Global, failing: u64, watch: BoxList) -> Result<Run, Fail> {
+fn begin<W: Watcher>(alloc: Global, failing: u64, watch: Vec<W>) -> Result<Run<W>, Fail> {
     let id = state_id().ok_or("no id")?;
     let group = FailingGroup::new(MemGroup::new(alloc, 2)?, failing);
-    let cluster = Cluster::new(alloc, group, id, 2, 0, watch)?;
+    let cluster = ClusterOf::new(alloc, group, id, 2, 0, watch)?;
     Ok(Run { cluster, done: 0 })
 }
 
 #[tactic(auto, using(crate::proofs::SaidSteps::session_of_step))]
-fn take_step(run: Run, step: &Step) -> Result<(Run, Result<Answer, StepFault>), Fail>
+fn take_step<W: Watcher>(
+    run: Run<W>,
+    step: &Step,
+) -> Result<(Run<W>, Result<Answer, StepFault>), Fail>
     requires names { IsTrue (step_fits step.now) }
     requires step { IsStepOf 2 step.now }
 {
@@ -63,7 +63,12 @@ fn text_of(alloc: Global, found: Result<Answer, StepFault>) -> Result<String, Fa
 }
 
 #[tactic(auto, using(crate::proofs::SaidSteps::has_names, crate::proofs::SaidSteps::is_of))]
-fn take_row(rt: &impl Abort, alloc: Global, run: Run, row: &str) -> Result<Run, Fail> {
+fn take_row<W: Watcher>(
+    rt: &impl Abort,
+    alloc: Global,
+    run: Run<W>,
+    row: &str,
+) -> Result<Run<W>, Fail> {
     let (said, answer) = row.split_once(" : ").ok_or("a row has no answer")?;
     match parse_line(said.as_bytes(), 2) {
         Ok(Line::Step(step)) => {
@@ -76,13 +81,13 @@ fn take_row(rt: &impl Abort, alloc: Global, run: Run, row: &str) -> Result<Run, 
 }
 
 /// The nodes behind the rows, where this call of the group fails.
-pub(crate) fn run_rows(
+pub(crate) fn run_rows<W: Watcher>(
     rt: &impl Abort,
     alloc: Global,
     failing: u64,
-    watch: BoxList,
+    watch: Vec<W>,
     table: &str,
-) -> Result<Run, Fail> {
+) -> Result<Run<W>, Fail> {
     let mut run = begin(alloc, failing, watch)?;
     for row in table.lines() {
         run = take_row(rt, alloc, run, row)?;
@@ -92,7 +97,7 @@ pub(crate) fn run_rows(
 
 // The rows, where this call of the group fails and nobody watches.
 fn check_rows(rt: &impl Abort, alloc: Global, failing: u64, table: &str) -> Result<(), Fail> {
-    run_rows(rt, alloc, failing, Vec::new(alloc), table)?;
+    run_rows::<ListWatcher>(rt, alloc, failing, Vec::new(alloc), table)?;
     Ok(())
 }
 

@@ -4,6 +4,7 @@ ghost use Rattle.std.specs.Prelude.{None};
 
 use crate::steps::run_rows;
 use std::alloc::Global;
+use std::process::Abort;
 use std::sync::Arc;
 use std::sync::atomic::{AtomicU64, Ordering};
 use std::test::Fail;
@@ -74,7 +75,7 @@ impl Watcher for Counted {
 fn boxed(alloc: Global, seen: &Arc<Seen>) -> Result<Box<dyn Watcher + Send>, Fail> {
     let counted = Counted {
         list: ListWatcher::new(),
-        seen: Arc::clone(seen)?,
+        seen: Arc::try_clone(seen)?,
     };
     Ok(Box::new(alloc, counted)?)
 }
@@ -89,6 +90,19 @@ const LEAVE: &str = "\
 2 take : TOOK 2
 1 leave : LEFT 3";
 
+// The rows, with three watchers; what is seen of them behind the rows, and then behind the nodes' end.
+fn watched<W: Watcher>(
+    rt: &impl Abort,
+    alloc: Global,
+    seen: &Seen,
+    watch: Vec<W>,
+) -> Result<([u64; 4], [u64; 4]), Fail> {
+    let run = run_rows(rt, alloc, 0, watch, LEAVE)?;
+    let behind = seen.all();
+    drop(run);
+    Ok((behind, seen.all()))
+}
+
 #[test]
 fn a_watcher_hears_each_number_once_and_its_end_at_the_leave(rt: HostRuntime) -> Result<(), Fail> {
     let seen = Arc::new(rt.alloc(), Seen::new())?;
@@ -96,12 +110,11 @@ fn a_watcher_hears_each_number_once_and_its_end_at_the_leave(rt: HostRuntime) ->
     for _ in 0..3 {
         watch.push(boxed(rt.alloc(), &seen)?)?;
     }
-    let run = run_rows(&rt, rt.alloc(), 0, watch, LEAVE)?;
+    let (behind, end) = watched::<Box<dyn Watcher + Send>>(&rt, rt.alloc(), &seen, watch)?;
     // The third, which no node has, was told that it ended at 0. That of node 1 heard of 1 and 2,
     // and was told that it ended at 2.
-    assert_eq!(rt; seen.all(), [2, 2, 3, 2]);
-    drop(run);
+    assert_eq!(rt; behind, [2, 2, 3, 2]);
     // That of node 2 heard of 1, and is dropped without an end.
-    assert_eq!(rt; seen.all(), [3, 3, 4, 1002]);
+    assert_eq!(rt; end, [3, 3, 4, 1002]);
     Ok(())
 }
