@@ -1,5 +1,5 @@
 -- A drain, from its parts.
-use Rattle.std.proofs.Common.{◌≡◌, ℕ, zero, suc, ◌+◌, ◌-◌, List, [], ◌∷◌, ◌++◌, length, refl, sym, ap, subst, ◌∙◌, arith, append-nil, append_assoc, length-append, ◌≤◌, ◌<◌}
+use Rattle.std.proofs.Common.{◌≡◌, ℕ, zero, suc, ◌+◌, ◌-◌, false, List, [], ◌∷◌, ◌++◌, length, refl, sym, ap, subst, ◌∙◌, arith, append-nil, append_assoc, length-append, ◌≤◌, ◌<◌}
 use Rattle.std.specs.Prelude.{map, replicate}
 use Rattle.std.proofs.lemmas.List.{replicate_more}
 use Rattle.order_event.specs.declared.event.Event.{Event}
@@ -9,7 +9,7 @@ use Rattle.order_event.specs.declared.step.Act.TheVariants as act
 use Rattle.order_event.specs.declared.step.Answer.{Answer}
 use Rattle.order_event.specs.declared.step.Answer.TheVariants as answer
 use Rattle.group_order.specs.Order.{event_of}
-use Rattle.node_meaning.specs.Node.{ModelNode}
+use Rattle.node_meaning.specs.Node.{ModelNode, is_connected}
 use Rattle.node_meaning.specs.Steps.{times, first_sent, start_step, finish_step, advance_step, node_step, commit_next, drained, all_taken, all_certified, all_committed}
 use Rattle.node_meaning.specs.Cluster.{ModelCluster, order_first, with_node, step_of, set_at, orders_of, step_at, cluster_step}
 use Rattle.node_core.specs.Memory.{StartWants}
@@ -21,7 +21,7 @@ use Rattle.node_laws.specs.Drains.{after_acts, all_sent, sent_acts, taken_acts, 
 use Rattle.cluster_core.specs.Steps.{Wants, MayFail}
 use Rattle.cluster_core.specs.Acts.{IsKept, Goes, Acted, Failed, Runs, Stops, Halts, cluster_of}
 use Rattle.cluster_core.specs.Drain.{Sent, SentFew, Part, PartDone, Takes, TakesFew, Certifies, CertifiesFew, Commits, CommitsFew, take_next, certify_next}
-use Rattle.cluster_core.proofs.ActLaws.{goes_same, runs_none}
+use Rattle.cluster_core.proofs.ActLaws.{goes_same, runs_none, take_not_connected}
 use Rattle.cluster_core.proofs.RunLaws.{runs_then, runs_acted, stops_none, stops_first, stops_later, replicate_split, commit_split}
 
 -- ---- a step that is done again and again
@@ -435,3 +435,13 @@ module _ (count : ℕ) (before now : List Event) (old middle : Seat) (counts : c
                 kept = record { few = sent.goes.kept.few; seated = three.seated };
               };
             }
+
+-- ---- a node that is not connected takes nothing, however often
+pub idle_takes : (order : List Event) (seat : Seat) → is_connected seat.node.at.phase ≡ false → IsKept order seat → (k : ℕ)
+    → Takes k order seat seat
+idle_takes order seat away kept zero = part_none order seat kept.seated
+idle_takes order seat away kept (suc k) =
+    let next : k + 1 ≡ suc k = omega arith in
+    subst (λ j. Takes j order seat seat) next
+    (one_more act.Take (take_next order) order seat seat seat k (idle_takes order seat away kept k)
+    (take_one order order seat seat answer.Nothing (take_not_connected order seat away kept)).1)

@@ -1,6 +1,6 @@
 -- A node leaves: what that does to the cluster, from what it does to the node's seat.
 use Rattle.std.proofs.Common.{◌≡◌, ℕ, suc, ◌+◌, ◌<◌, ◌≤◌, ◌^◌, Bool, true, false, cond, List, [], ◌∷◌, ◌++◌, length, fold, Option, None, Some, refl, sym, ap, subst, ◌∙◌, arith, length-append}
-use Rattle.std.specs.Prelude.{slice_get}
+use Rattle.std.specs.Prelude.{slice_get, not, ◌==◌}
 use Rattle.std.specs.List.{AllByRecursion, filter}
 use Rattle.finite_map.specs.FiniteMap.{get}
 use Rattle.order_event.specs.declared.event.Event.{Event}
@@ -46,7 +46,7 @@ few_last (event.Report member number ∷ order) last few all = few_last order la
 few_left : (order : List Event) (member : ℕ) → AllByRecursion HasFewMembers order
     → HasFewMembers (view_without order member)
 few_left order member all =
-    omega (arith, not_more _ (last_view order).1, few_last order (0, []) (omega arith) all)
+    omega (arith, not_more (λ other. not (other == member)) (last_view order).1, few_last order (0, []) (omega arith) all)
 
 -- ---- the step
 pub left_already : (order : List Event) (old : Seat) → is_left old.node.at.phase ≡ true

@@ -1,5 +1,6 @@
 -- The outbox of the seat with the step's number is the model's.
-use Rattle.std.proofs.Common.{ap, sym, ◌∙◌, min, ◌-◌}
+use Rattle.std.proofs.Common.{ap, sym, ◌∙◌, min, ◌-◌, cond}
+use Rattle.node_meaning.specs.Node.{is_left}
 use Rattle.node_meaning.specs.Cluster.{node_orders}
 use Rattle.node_core.specs.Stands.{plain_of}
 use Rattle.cluster_core.specs.State.{ClusterState}
@@ -10,18 +11,18 @@ pub returns-in-Order : goal.returns-in-Order
 returns-in-Order g c =
     will_is c.args.self.now.model c.self.inside.seats.items _ c.args.step.now c.index.result.now c.min.result
     (ap (λ (v : ClusterState). v.model.nodes) c.self.view_is) (ap (λ k. k - 1) c.from.ensures) c.requires c.index.ensures
-    (c.min.ensures ∙ ap (λ k. min k 1) c.place.ensures.outbox ∙ first_counts c.index.result.now.node.parts.queue.outbox
+    (c.min.ensures ∙ ap (λ k. min k 1) c.place-place.ensures.outbox ∙ first_counts c.index.result.now.node.parts.queue.outbox
     ∙ ap (λ a. node_orders a (plain_of c.index.result.now.node.parts)) (sym c.in-Order.is))
 
 pub returns-in-Drain : goal.returns-in-Drain
 returns-in-Drain g c =
-    will_is c.args.self.now.model c.self.inside.seats.items _ c.args.step.now c.index.result.now c.place.result.outbox
+    will_is c.args.self.now.model c.self.inside.seats.items _ c.args.step.now c.index.result.now c.place-place.result.outbox
     (ap (λ (v : ClusterState). v.model.nodes) c.self.view_is) (ap (λ k. k - 1) c.from.ensures) c.requires c.index.ensures
-    (c.place.ensures.outbox ∙ ap (λ a. node_orders a (plain_of c.index.result.now.node.parts)) (sym c.in-Drain.is))
+    (c.place-place.ensures.outbox ∙ ap (λ a. node_orders a (plain_of c.index.result.now.node.parts)) (sym c.in-Drain.is))
 
 pub returns-in-Leave : goal.returns-in-Leave
 returns-in-Leave g c =
     will_is c.args.self.now.model c.self.inside.seats.items _ c.args.step.now c.index.result.now 0
     (ap (λ (v : ClusterState). v.model.nodes) c.self.view_is) (ap (λ k. k - 1) c.from.ensures) c.requires c.index.ensures
-    (ap (λ b. cond b 0 1) (sym c.has_left.true ∙ c.has_left.ensures ∙ ap is_left c.place.ensures.phase)
+    (ap (λ b. cond b 0 1) (sym c.has_left.true ∙ c.has_left.ensures ∙ ap is_left c.place-place.ensures.phase)
     ∙ ap (λ a. node_orders a (plain_of c.index.result.now.node.parts)) (sym c.in-Leave.is))
