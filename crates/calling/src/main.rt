@@ -1,6 +1,6 @@
-//! A caller of the library: two nodes over a group in memory. The first one commits a row and leaves,
-//! and a watcher of the caller's own hears what it commits. Each step is printed with what it is
-//! answered, and at the end what the second node shows.
+//! A caller of the library: two nodes over a group in memory. The first one commits a row and
+//! leaves, and a watcher of the caller's own hears what it commits. Each step is printed with what
+//! it is answered, and at the end what the second node shows.
 #![tactic(auto)]
 
 mod nodes;
@@ -39,7 +39,8 @@ fn main(rt: HostRuntime) -> Result<()> {
 ghost use Rattle.std.specs.Prelude.{◌≡◌, length};
 ghost use Rattle.node_laws.specs.Given.{given};
 
-// Session 1 of node 1 inserts a row and commits it; then that node leaves, and the other one goes on.
+// Session 1 of node 1 inserts a row and commits it; then that node leaves, and the other one goes
+// on.
 fn run(rt: HostRuntime, cluster: &mut Nodes) -> Result<()>
     requires nodes { length cluster.old.model.nodes ≡ 2 }
     requires counts { given cluster.old.model ≡ 1 }

@@ -16,8 +16,8 @@ has_session (act.Client session call) = (1 ≤ session) × (session ≤ 32)
 has_session other = Unit {0}
 
 -- ---- where a step of a node may come to a fault
--- to a fault of the group, where it asks the group: ordering a message that waits, taking, where the
--- node is connected, and leaving, where it has not left
+-- to a fault of the group, where it asks the group: ordering a message that waits, taking, where
+-- the node is connected, and leaving, where it has not left
 abbrev pub Asks : ModelNode → Act → Type 0
 Asks n act.Order = 0 < length n.outbox
 Asks n act.Take = IsTrue (is_connected n.at.phase)

@@ -24,7 +24,8 @@ pub(crate) fn drain<G: Group, W: Watcher>(
     group: &mut G,
 ) -> Result<Answer, StepFault>
     requires kept { IsKept (G.order group.old) (seen seat.old) }
-    requires events { length (G.order group.old) + node_orders act.Drain (plain_of seat.old.node.parts)
+    requires events { length (G.order group.old)
+        + node_orders act.Drain (plain_of seat.old.node.parts)
         ≤ 500_000 }
     requires counts { CanGoOn (plain_of seat.old.node.parts) }
     ensures ok { IfOk result
@@ -51,7 +52,8 @@ fn order_all<G: Group, W: Watcher>(
     count: u64,
 ) -> Result<(), StepFault>
     requires kept { IsKept (G.order group.old) (seen seat.old) }
-    requires events { length (G.order group.old) + length seat.old.node.parts.queue.outbox ≤ 500_000 }
+    requires events { length (G.order group.old) + length seat.old.node.parts.queue.outbox
+        ≤ 500_000 }
     ensures ok { OnOk result
         (Sent count (G.order group.old) (G.order group.new) (seen seat.old) (seen seat.new)) }
     ensures err { IfErr result
@@ -74,7 +76,8 @@ fn take_rest<G: Group, W: Watcher>(
     requires events { length (G.order group.old) ≤ 500_000 }
     ensures order { G.order group.new ≡ G.order group.old }
     ensures ok { OnOk result (Takes count (G.order group.old) (seen seat.old) (seen seat.new)) }
-    ensures err { IfErr result (TakesFew count (G.order group.old) (seen seat.old) (seen seat.new)) }
+    ensures err { IfErr result
+        (TakesFew count (G.order group.old) (seen seat.old) (seen seat.new)) }
     ensures cause { HasGroupCause (G.faults group.old) (G.faults group.new) result }
 {
     if seat.node.is_connected() {
@@ -94,7 +97,8 @@ fn take_all<G: Group, W: Watcher>(
     requires events { length (G.order group.old) ≤ 500_000 }
     ensures order { G.order group.new ≡ G.order group.old }
     ensures ok { OnOk result (Takes count (G.order group.old) (seen seat.old) (seen seat.new)) }
-    ensures err { IfErr result (TakesFew count (G.order group.old) (seen seat.old) (seen seat.new)) }
+    ensures err { IfErr result
+        (TakesFew count (G.order group.old) (seen seat.old) (seen seat.new)) }
     ensures cause { HasGroupCause (G.faults group.old) (G.faults group.new) result }
 {
     for _ in 0..count {

@@ -58,7 +58,8 @@ impl<W: Watcher> Seat<W> {
         requires names { IsTrue (call_fits call.now) }
         requires counts { CanGoOn (plain_of self.old.node.parts) }
         ensures ok { IfOk result (SeatDoes
-            (λ order n. node_step order n (act.Client session call.now)) (seen self.old) (seen self.new)) }
+            (λ order n. node_step order n (act.Client session call.now))
+            (seen self.old) (seen self.new)) }
         ensures err { OnErr result (SeatUnchanged (seen self.old) (seen self.new)) }
         ensures memory { OnErr result (CallWants (plain_of self.old.node.parts) session call.now) }
     {
@@ -96,7 +97,8 @@ impl<W: Watcher> Seat<W> {
         requires seated { IsSomewhere (seen self.old) }
         requires serial { self.old.node.parts.at.serial < 2 ^ 63 }
         ensures ok { IfOk result
-            (SeatDoes (λ order n. node_step order n (act.Start number)) (seen self.old) (seen self.new)) }
+            (SeatDoes (λ order n. node_step order n (act.Start number))
+            (seen self.old) (seen self.new)) }
         ensures err { OnErr result (SeatUnchanged (seen self.old) (seen self.new)) }
         ensures memory { OnErr result ((order : List Ordered) → IsSeated order (seen self.old) →
             StartWants order (plain_of self.old.node.parts) number) }
@@ -138,7 +140,8 @@ impl<W: Watcher> Seat<W> {
     /// The next number that was certified is committed.
     pub(crate) fn advance(&mut self) -> Answer
         requires seated { IsSomewhere (seen self.old) }
-        ensures { SeatDoes (λ order n. node_step order n act.Advance) (seen self.old) (seen self.new) result }
+        ensures { SeatDoes (λ order n. node_step order n act.Advance)
+            (seen self.old) (seen self.new) result }
     {
         advanced_answer(self.node.advance())
     }

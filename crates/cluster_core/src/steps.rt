@@ -51,7 +51,8 @@ pub(crate) fn step_on<G: Group, W: Watcher>(
 ) -> Result<Answer, StepFault>
     requires kept { IsKept (G.order group.old) (seen seat.old) }
     requires act { has_session act.now × IsTrue (act_fits act.now) }
-    requires events { length (G.order group.old) + node_orders act.now (plain_of seat.old.node.parts)
+    requires events { length (G.order group.old)
+        + node_orders act.now (plain_of seat.old.node.parts)
         ≤ 500_000 }
     requires counts { CanGoOn (plain_of seat.old.node.parts) }
     ensures ok { IfOk result
@@ -83,7 +84,8 @@ pub(crate) fn order_first<G: Group, W: Watcher>(
     group: &mut G,
 ) -> Result<Answer, StepFault>
     requires kept { IsKept (G.order group.old) (seen seat.old) }
-    requires events { length (G.order group.old) + node_orders act.Order (plain_of seat.old.node.parts)
+    requires events { length (G.order group.old)
+        + node_orders act.Order (plain_of seat.old.node.parts)
         ≤ 500_000 }
     ensures ok { IfOk result
         (Acted act.Order (G.order group.old) (G.order group.new) (seen seat.old) (seen seat.new)) }
@@ -100,8 +102,8 @@ pub(crate) fn order_first<G: Group, W: Watcher>(
     Ok(Answer::Ordered(number))
 }
 
-/// A view without the node's member is ordered, and the node leaves. Its watcher is told the end and
-/// dropped.
+/// A view without the node's member is ordered, and the node leaves. Its watcher is told the end
+/// and dropped.
 fn leave<G: Group, W: Watcher>(seat: &mut Seat<W>, group: &mut G) -> Result<Answer, StepFault>
     requires kept { IsKept (G.order group.old) (seen seat.old) }
     requires events { length (G.order group.old)

@@ -90,7 +90,8 @@ const LEAVE: &str = "\
 2 take : TOOK 2
 1 leave : LEFT 3";
 
-// The rows, with three watchers; what is seen of them behind the rows, and then behind the nodes' end.
+// The rows, with three watchers; what is seen of them behind the rows, and then behind the nodes'
+// end.
 fn watched<W: Watcher>(
     rt: &impl Abort,
     alloc: Global,

@@ -27,8 +27,8 @@ use Rattle.cluster_core.specs.State.{end_at, end_rows}
 
 -- ---- the rows of the one fold
 -- behind the first n events: the changes of the commits that passed, in their order, on no rows.
--- The changes of a commit are those of its transaction's fragments and then its own; so nothing of a
--- fragment is there before its transaction commits, nor where it never does
+-- The changes of a commit are those of its transaction's fragments and then its own; so nothing of
+-- a fragment is there before its transaction commits, nor where it never does
 abbrev pub committed_rows : List Event → ℕ → Rows
 committed_rows order n =
     ops_on (flat_map (λ (c : CommitItem). ops_at order c.number) (state_at order n).commits) empty
