@@ -9,7 +9,7 @@ use Rattle.galera_run.specs.declared.fault.RunFault.TheVariants as stop
 use Rattle.galera_run.specs.declared.place.Opened.{Opened}
 use Rattle.galera_run.specs.declared.place.Place.{Place}
 use Rattle.galera_run.specs.Lines.{last_line}
-use Rattle.galera_run.specs.Reading.{Told, Run, told_at, told_from, front, follows, line_at, answer_line, run_told, run_ended, ending_of, end_of, end_text, finished}
+use Rattle.galera_run.specs.Reading.{Told, Run, told_at, told_from, front, follows, line_at, answer_line, run_told, run_ended, ending_of, end_of, end_text}
 use Rattle.galera_run.specs.Writing.{AppendsFront}
 use Rattle.galera_run.specs.Feeding.{Runs, RunsCut, LineStops, PrintStops}
 use Rattle.galera_run.specs.Outcome.{TellsAll, TellsRefusal, EndStops}

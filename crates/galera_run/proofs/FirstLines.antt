@@ -1,6 +1,6 @@
 -- what the first lines of an input print
-use Rattle.std.proofs.Common.{◌≡◌, ℕ, zero, suc, Bool, true, false, if◌then◌else◌, ◌==◌, List, [], ◌∷◌, ◌++◌, length, take, refl, sym, ap, ◌∙◌, append_assoc, subst}
-use Rattle.std.specs.Prelude.{Option, Some, None, Result, Ok, Err}
+use Rattle.std.proofs.Common.{◌≡◌, ℕ, zero, suc, true, false, if◌then◌else◌, ◌==◌, List, [], ◌∷◌, ◌++◌, length, take, refl, sym, ap, ◌∙◌, append_assoc, subst}
+use Rattle.std.specs.Prelude.{Option, Result, Ok, Err}
 use Rattle.std.specs.Io.KnownBytes.{Appends, Keeps}
 use Rattle.std.proofs.KnownBytes.{Appends-kept}
 use Rattle.std.proofs.lemmas.List.{append-nil}
@@ -10,7 +10,7 @@ use Rattle.script_text.specs.declared.line.ScriptCause.{ScriptCause}
 use Rattle.galera_run.specs.declared.place.Place.{Place}
 use Rattle.galera_run.specs.declared.script.Script.{Script}
 use Rattle.galera_run.specs.Lines.{lines_to, lines_of, last_line, no_line}
-use Rattle.galera_run.specs.Reading.{Told, Run, start, front, follows, told_from, line_at, answer_line, run_told, run_of, first_text, Ending, ending_of, end_text, refused}
+use Rattle.galera_run.specs.Reading.{Told, start, follows, told_from, line_at, answer_line, run_of, first_text, Ending, ending_of, end_text, refused}
 use Rattle.galera_run.specs.Writing.{IsFrontOf}
 use Rattle.galera_run.specs.Feeding.{told_by, Halts}
 use Rattle.galera_run.specs.Outcome.{TellsRefusal, TellsFirst}

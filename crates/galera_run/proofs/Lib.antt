@@ -14,6 +14,7 @@ pub mod ReplicatedLines
 pub mod Replicating
 pub mod RightStatuses
 pub mod ScheduleLaws
+pub mod Sending
 pub mod Sources
 pub mod Statuses
 pub mod Writes

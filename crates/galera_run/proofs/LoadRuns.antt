@@ -1,20 +1,18 @@
 -- A run of the workload of `load`, one step after another.
 use Rattle.std.proofs.Common.{◌≡◌, ◌≤◌, ℕ, ◌+◌, List, [], ◌∷◌, ◌++◌, length, ap, refl, sym, ◌∙◌, arith}
-use Rattle.std.specs.List.{AllByRecursion}
 use Rattle.order_event.specs.declared.step.Answer.{Answer}
 use Rattle.order_event.specs.declared.step.Step.{Step}
-use Rattle.script_text.specs.Steps.{IsRunnable}
 use Rattle.script_text.specs.Load.{load_steps}
 use Rattle.script_text.proofs.LoadLaws.{load_runs, load_length}
 use Rattle.report_text.specs.declared.load.LoadCounts.{LoadCounts}
 use Rattle.report_text.specs.Load.{counts_of, together, counts_text}
-use Rattle.report_text.proofs.CountLemmas.{count_next, count_within}
-use Rattle.node_meaning.specs.Cluster.{ModelCluster, start_cluster, will_order, cluster_step, run}
+use Rattle.report_text.proofs.CountLemmas.{count_next}
+use Rattle.node_meaning.specs.Cluster.{ModelCluster, will_order, cluster_step, run}
 use Rattle.node_laws.specs.Given.{given}
 use Rattle.node_laws.proofs.ClusterLaws.{cluster_grows}
 use Rattle.node_laws.proofs.GivenLaws.{step_given}
 use Rattle.galera_run.specs.declared.workload.Workload.{Workload}
-use Rattle.galera_run.specs.Load.{load_start, load_run, load_summary, nodes_sum, IsWithin, IsStepped, LeadsTo, IsUnderWay, IsDone}
+use Rattle.galera_run.specs.Load.{load_start, load_summary, nodes_sum, IsWithin, IsStepped, IsUnderWay, IsDone}
 
 -- the events of a step are among what the cluster has given out behind it
 pub orders_within : (c : ModelCluster) (step : Step) → length c.order + will_order c step ≤ given c + 1

@@ -1,7 +1,7 @@
 -- a run over the lines of an input is the run over their steps
-use Rattle.std.proofs.Common.{◌≡◌, ◌≤◌, ℕ, zero, suc, ◌+◌, ◌-◌, Bool, true, false, cond, List, [], ◌∷◌, ◌++◌, length, take, map, refl, sym, ap, ◌∙◌, append_assoc, subst, arith, inl, inr}
+use Rattle.std.proofs.Common.{◌≡◌, ℕ, zero, suc, ◌+◌, true, false, List, [], ◌∷◌, ◌++◌, length, take, refl, sym, ap, ◌∙◌, subst, arith, inl, inr}
 use Rattle.std.specs.Prelude.{Option, Some, None, Result, Ok, Err, nat_le, ◌⊎◌, if◌then◌else◌}
-use Rattle.std.proofs.lemmas.List.{append-nil, length-append}
+use Rattle.std.proofs.lemmas.List.{append-nil}
 use Rattle.std.proofs.Math.Seq.{take-length}
 use Rattle.order_event.specs.declared.step.Answer.{Answer}
 use Rattle.order_event.specs.declared.step.Step.{Step}
@@ -16,8 +16,8 @@ use Rattle.node_meaning.specs.Cluster.{ModelCluster, cluster_step, run}
 use Rattle.galera_run.specs.declared.place.Opened.{Opened}
 use Rattle.galera_run.specs.declared.place.Place.{Place}
 use Rattle.galera_run.specs.Lines.{lines_of}
-use Rattle.galera_run.specs.Reading.{Told, Reached, place, fault, start, opened, behind, front, follows, told_from, line_at, read_at, opened_at, stepped_at, answered_at, is_within, answer_line, most_bytes, run_told, run_of, Ending, finished, refused, ending_of, end_of, end_text}
-use Rattle.galera_run.specs.Schedules.{LineStep, line_step, Schedule, said_step, steps_behind, schedule_at, schedule_from, run_over, answers_text, cluster_of, schedule_text, text_of_steps, IsRunTo, EndsOver, RunsOverSteps}
+use Rattle.galera_run.specs.Reading.{Reached, place, fault, start, opened, follows, told_from, line_at, read_at, opened_at, stepped_at, answered_at, is_within, answer_line, most_bytes, run_of, finished, ending_of, end_of, end_text}
+use Rattle.galera_run.specs.Schedules.{LineStep, line_step, Schedule, said_step, steps_behind, schedule_at, schedule_from, run_over, answers_text, cluster_of, text_of_steps, IsRunTo, EndsOver, RunsOverSteps}
 
 -- ---- lines behind the header, from a place with this cluster on
 -- where a run over them came to

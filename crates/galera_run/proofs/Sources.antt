@@ -2,6 +2,7 @@
 use Rattle.std.proofs.Common.{◌≡◌, ℕ, List, [], ◌++◌, refl, sym, ap, ◌∙◌, append_assoc, length-append, subst, inl, inr, arith}
 use Rattle.std.specs.Prelude.{Option, Some, None}
 use Rattle.std.specs.Io.KnownBytes.{Appends, Keeps, Consumes, IsAtEnd}
+use Rattle.std.proofs.KnownBytes.{Keeps-refl}
 use Rattle.std.proofs.lemmas.List.{append-nil}
 use Rattle.script_text.specs.declared.line.ScriptCause.{ScriptCause}
 use Rattle.galera_run.specs.declared.fault.Finished.{Finished}
@@ -9,12 +10,12 @@ use Rattle.galera_run.specs.declared.fault.RunFault.{RunFault}
 use Rattle.galera_run.specs.declared.fault.RunFault.TheVariants as stop
 use Rattle.galera_run.specs.declared.script.Script.{Script}
 use Rattle.galera_run.specs.Lines.{last_line, no_line}
-use Rattle.galera_run.specs.Reading.{Told, Run, start, front, run_told, run_of, told_so_far, first_text, fault}
+use Rattle.galera_run.specs.Reading.{Told, Run, start, front, run_told, run_of, told_so_far, fault}
 use Rattle.galera_run.specs.Writing.{AppendsFront}
 use Rattle.galera_run.specs.Feeding.{told_by, IsSound, Stops, Halts, Reads, ReadsRefused, ReadsCut, ReadsHalted, ReadStops}
-use Rattle.galera_run.specs.Outcome.{TellsAll, TellsRefusal, TellsRead, TellsFirst, EndStops, RunTells, RunStops}
-use Rattle.galera_run.proofs.Writes.{appends_both}
-use Rattle.galera_run.proofs.Readings.{feeds_nothing, feeds_both, feeds_refuses, feeds_cuts, front_later, front_of_more, halts_later, halts_there}
+use Rattle.galera_run.specs.Outcome.{TellsAll, TellsRefusal, TellsRead, EndStops, RunTells, RunStops}
+use Rattle.galera_run.proofs.Writes.{appends_both, keeps_appends}
+use Rattle.galera_run.proofs.Readings.{goes_nothing, feeds_nothing, feeds_both, feeds_refuses, feeds_cuts, front_later, front_of_more, halts_later, halts_there}
 use Rattle.galera_run.proofs.Endings.{run_behind, run_front, tells_behind, refusal_behind}
 use Rattle.galera_run.proofs.FirstLines.{first, tells_all_lines, halts_first}
 
@@ -32,6 +33,29 @@ consumes_both (Some xs) (Some ys) (Some zs) x y p q = p ∙ ap (λ z. x ++ z) q 
 -- a read that gave nothing
 pub reads_nothing : (a b : Option (List ℕ)) (s : Script) (w : Option (List ℕ)) → Keeps a b → Reads a b s s w w
 reads_nothing a b s w k = record { taken = []; consumed = keeps_consumes a b k; feeds = feeds_nothing s w; count = omega arith }
+
+-- nothing was read yet, and what was written stays
+pub reads_sent : (a : Option (List ℕ)) (s : Script) (v w : Option (List ℕ)) → Keeps v w
+    → Reads a a s s v w
+reads_sent a s v w k = record {
+  taken = [];
+  consumed = keeps_consumes a a (Keeps-refl a);
+  feeds = record { text = []; written = keeps_appends v w k; goes_on = goes_nothing s };
+  count = omega arith;
+}
+
+-- and it could not be sent out
+pub cut_sent : (a : Option (List ℕ)) (s : Script) (v w : Option (List ℕ)) → Keeps v w
+    → ReadsCut a a s v w
+cut_sent a s v w k = record {
+  taken = [];
+  consumed = keeps_consumes a a (Keeps-refl a);
+  cuts = λ bytes. record {
+    text = [];
+    written = keeps_appends v w k;
+    is_front = ((told_by last_line s bytes).text, refl);
+  };
+}
 
 pub reads_both : (a b c : Option (List ℕ)) (s t r : Script) (u v w : Option (List ℕ)) → Reads a b s t u v →
     Reads b c t r v w → Reads a c s r u w

@@ -6,7 +6,7 @@ use Rattle.outside_io.specs.Outside.{Rose}
 use Rattle.script_text.specs.declared.line.ScriptCause.{ScriptCause}
 use Rattle.galera_run.specs.Reading.{run_of, text_so_far, Ending}
 use Rattle.galera_run.specs.Writing.{AppendsFront}
-use Rattle.galera_run.specs.Outcome.{TellsRefusal, TellsRead, TellsFirst}
+use Rattle.galera_run.specs.Outcome.{TellsRefusal, TellsRead}
 use Rattle.galera_run.specs.Program.{usage_text, refusal_text, read_text, last_text, HasCauses, EndsAs, EndsUsage, TellsLines, CutsText, CutsUnread}
 use Rattle.galera_run.proofs.FirstLines.{refusal_first}
 use Rattle.galera_run.proofs.Readings.{front_later}

@@ -1,6 +1,7 @@
 -- what the top calls promise of a run over a source and a sink
-use Rattle.std.specs.Prelude.{◌≡◌, ◌≤◌, ◌⊎◌, ℕ, List, length, Option, IfSome}
+use Rattle.std.specs.Prelude.{◌≡◌, ◌≤◌, ◌⊎◌, ℕ, List, length, Option, IfSome, Result, Ok, Err}
 use Rattle.std.specs.Io.KnownBytes.{Appends, Consumes, Keeps}
+use Rattle.outside_io.specs.Outside.{Rose}
 use Rattle.script_text.specs.declared.line.ScriptCause.{ScriptCause}
 use Rattle.node_meaning.specs.Cluster.{ModelCluster}
 use Rattle.galera_run.specs.declared.fault.RunFault.{RunFault}
@@ -69,3 +70,19 @@ RunStops left_old left_new old new stop.Write =
     IfSome left_old (λ input. AppendsFront old new (run_of input).text)
 RunStops left_old left_new old new stop.NoMemory =
     IfSome left_old (λ input. TellsFirst input old new)
+
+-- ---- what a run printed is sent out at its end
+-- a run behind which that is due: neither its source nor its sink failed
+abbrev pub IsToSend : Result Finished RunFault → Type 0
+IsToSend (Ok done) = Unit {0}
+IsToSend (Err (stop.Script number c)) = Unit {0}
+IsToSend (Err stop.Read) = ⊥
+IsToSend (Err stop.Write) = ⊥
+IsToSend (Err stop.NoMemory) = Unit {0}
+
+-- it ends as it did, or, where that was due and failed, by the sink; the sink's count of faults tells
+-- which
+abbrev pub SendsOut : Result Finished RunFault → Result Finished RunFault → ℕ → ℕ → Type 0
+SendsOut ran result before now =
+    ((result ≡ ran) × (now ≡ before))
+    ⊎ (IsToSend ran × (result ≡ Err stop.Write) × Rose before now)

@@ -8,7 +8,7 @@ ghost use Rattle.galera_run.specs.Replicated.{LoadReplicates};
 
 use crate::fault::{Finished, RunFault};
 use crate::place::Unwatched;
-use crate::print::print_lines;
+use crate::print::print_out;
 use crate::workload::Workload;
 use cluster_core::{ClusterOf, StepFault};
 use group_order::MemGroup;
@@ -43,7 +43,7 @@ pub fn run_load<K: Sink>(
     ensures right { LoadReplicates seed count }
 {
     match summary(alloc, seed, count) {
-        Ok((text, done)) => match print_lines(text.as_slice(), out) {
+        Ok((text, done)) => match print_out(text.as_slice(), out) {
             Ok(()) => Ok(done),
             Err(fault) => Err(fault),
         },

@@ -19,6 +19,16 @@ pub(crate) fn write_piece<K: Sink>(out: &mut K, piece: &[u8]) -> Result<(), Fail
     Ok(())
 }
 
+/// Writes the whole piece, and sends out what was gathered.
+pub(crate) fn write_out<K: Sink>(out: &mut K, piece: &[u8]) -> Result<(), Failed>
+    ensures ok { OnOk result (Appends (K.written out.old) (K.written out.new) piece.now) }
+    ensures err { OnErr result (AppendsFront (K.written out.old) (K.written out.new) piece.now) }
+    ensures cause { HasCause (K.faults out.old) (K.faults out.new) result }
+{
+    write_piece(out, piece)?;
+    out.send_out()
+}
+
 /// Writes the lines of the text, each as one piece.
 pub(crate) fn write_lines<K: Sink>(out: &mut K, text: &[u8]) -> Result<(), Failed>
     ensures ok { OnOk result (Appends (K.written out.old) (K.written out.new) text.now) }

@@ -1,7 +1,8 @@
 ghost use Rattle.std.specs.Prelude.{◌≡◌, IfOk, OnOk, IfErr};
-ghost use Rattle.std.specs.Io.KnownBytes.{Appends};
+ghost use Rattle.std.specs.Io.KnownBytes.{Appends, Keeps};
 ghost use Rattle.report_text.specs.Texts.{line_text};
 ghost use Rattle.galera_run.specs.Feeding.{PrintStops, HasWriteCause};
+ghost use Rattle.galera_run.specs.declared.fault.RunFault.TheVariants as stop;
 
 use crate::fault::RunFault;
 use crate::output::{write_lines, write_piece};
@@ -49,6 +50,30 @@ pub(crate) fn print_lines<K: Sink>(text: &[u8], out: &mut K) -> Result<(), RunFa
     ensures cause { HasWriteCause (K.faults out.old) (K.faults out.new) result }
 {
     match write_lines(out, text) {
+        Ok(()) => Ok(()),
+        Err(_) => Err(RunFault::Write),
+    }
+}
+
+/// Prints lines, and sends them out.
+pub(crate) fn print_out<K: Sink>(text: &[u8], out: &mut K) -> Result<(), RunFault>
+    ensures ok { OnOk result (Appends (K.written out.old) (K.written out.new) text.now) }
+    ensures err { IfErr result (PrintStops (K.written out.old) (K.written out.new) text.now) }
+    ensures cause { HasWriteCause (K.faults out.old) (K.faults out.new) result }
+{
+    match print_lines(text, out) {
+        Ok(()) => send_printed(out),
+        Err(fault) => Err(fault),
+    }
+}
+
+/// Sends out what was printed.
+pub(crate) fn send_printed<K: Sink>(out: &mut K) -> Result<(), RunFault>
+    ensures kept { Keeps (K.written out.old) (K.written out.new) }
+    ensures err { IfErr result (λ fault. fault ≡ stop.Write) }
+    ensures cause { HasWriteCause (K.faults out.old) (K.faults out.new) result }
+{
+    match out.send_out() {
         Ok(()) => Ok(()),
         Err(_) => Err(RunFault::Write),
     }

@@ -7,7 +7,7 @@ ghost use Rattle.galera_run.specs.Replicated.{WritesRight, AskedReplicates, Step
 
 use crate::fault::RunFault;
 use crate::load::run_load;
-use crate::output::write_piece;
+use crate::output::write_out;
 use crate::run::run_steps;
 use crate::words::{Asked, is_steps, load_asked};
 use itoa::Buffer;
@@ -163,14 +163,14 @@ fn cause_word(cause: ScriptCause) -> &'static [u8]
     }
 }
 
-// Writes the last line. The status is the one given, or 4 where the sink fails.
+// Writes the last line, and sends it out. The status is the one given, or 4 where the sink fails.
 fn end_with<K: Sink>(out: &mut K, text: &[u8], status: u8) -> u8
     requires { status < 4 }
     ensures cause { EndsAs status result (K.faults out.old) (K.faults out.new) }
     ensures written { result ≡ status → Appends (K.written out.old) (K.written out.new) text.now }
     ensures cut { result ≡ 4 → AppendsFront (K.written out.old) (K.written out.new) text.now }
 {
-    match write_piece(out, text) {
+    match write_out(out, text) {
         Ok(()) => status,
         Err(_) => 4,
     }

@@ -1,12 +1,13 @@
 ghost use Rattle.std.specs.Prelude.{◌≡◌, ◌<◌, true, false, length, IsTrue, IfSome, OnOk, IfOk, IfErr};
-ghost use Rattle.std.specs.Io.KnownBytes.{IsAtEnd};
+ghost use Rattle.std.specs.Io.KnownBytes.{IsAtEnd, Keeps};
 ghost use Rattle.galera_run.specs.Feeding.{IsSound, Reads, ReadStops, HasReadCause, HasWriteCause, read_count};
-ghost use Rattle.galera_run.specs.Outcome.{RunTells, RunStops};
+ghost use Rattle.galera_run.specs.Outcome.{RunTells, RunStops, SendsOut};
 ghost use Rattle.galera_run.specs.Replicated.{TellsRight, BeginsRight};
 
 use crate::fault::{Finished, RunFault};
 use crate::finish::finish;
 use crate::place::Place;
+use crate::print::send_printed;
 use crate::script::{Script, feed};
 use outside_io::{Sink, Source};
 use std::alloc::Global;
@@ -35,6 +36,23 @@ pub fn run_steps<S: Source, K: Sink>(
     ensures begins { IfSome (S.left input.old)
         (λ bytes. BeginsRight bytes (K.written out.old) (K.written out.new)) }
 {
+    let ran = run_lines(alloc, input, out);
+    send_behind(ran, out)
+}
+
+// Runs a schedule, and may leave what it printed to be sent out.
+fn run_lines<S: Source, K: Sink>(
+    alloc: Global,
+    input: &mut S,
+    out: &mut K,
+) -> Result<Finished, RunFault>
+    ensures ok { IfOk result (RunTells (S.left input.old) (K.written out.old) (K.written out.new)) }
+    ensures end { OnOk result (IsAtEnd (S.left input.new)) }
+    ensures err { IfErr result
+        (RunStops (S.left input.old) (S.left input.new) (K.written out.old) (K.written out.new)) }
+    ensures read { HasReadCause (S.faults input.old) (S.faults input.new) result }
+    ensures write { HasWriteCause (K.faults out.old) (K.faults out.new) result }
+{
     let mut script = Script {
         place: Place {
             number: 1,
@@ -47,6 +65,21 @@ pub fn run_steps<S: Source, K: Sink>(
     match read_all(alloc, &mut script, input, out) {
         Ok(()) => finish(alloc, &mut script, out),
         Err(fault) => Err(fault),
+    }
+}
+
+// Sends out what a run printed. Where its source failed nothing is left of that, and where its sink
+// failed no more is tried.
+fn send_behind<K: Sink>(ran: Result<Finished, RunFault>, out: &mut K) -> Result<Finished, RunFault>
+    ensures kept { Keeps (K.written out.old) (K.written out.new) }
+    ensures sent { SendsOut ran result (K.faults out.old) (K.faults out.new) }
+{
+    match ran {
+        Err(RunFault::Read) | Err(RunFault::Write) => ran,
+        _ => match send_printed(out) {
+            Ok(()) => ran,
+            Err(fault) => Err(fault),
+        },
     }
 }
 
@@ -78,8 +111,35 @@ fn read_all<S: Source, K: Sink>(
     }
 }
 
-// Runs the next piece of the source. False where there is none.
+// Sends out what was printed, and runs the next piece of the source. False where there is none.
 fn read_piece<S: Source, K: Sink>(
+    alloc: Global,
+    script: &mut Script,
+    input: &mut S,
+    out: &mut K,
+) -> Result<bool, RunFault>
+    requires { IsSound script.old }
+    ensures ok { OnOk result
+        (Reads (S.left input.old) (S.left input.new) script.old script.new (K.written out.old)
+        (K.written out.new)) }
+    ensures sound { OnOk result (IsSound script.new) }
+    ensures more { IfOk result
+        (λ more. (more ≡ true → read_count script.old < read_count script.new)
+        × (more ≡ false → IsAtEnd (S.left input.new))) }
+    ensures err { IfErr result
+        (ReadStops (S.left input.old) (S.left input.new) script.old (K.written out.old)
+        (K.written out.new)) }
+    ensures read { HasReadCause (S.faults input.old) (S.faults input.new) result }
+    ensures write { HasWriteCause (K.faults out.old) (K.faults out.new) result }
+{
+    if let Err(fault) = send_printed(out) {
+        return Err(fault);
+    }
+    run_piece(alloc, script, input, out)
+}
+
+// Runs the next piece of the source. False where there is none.
+fn run_piece<S: Source, K: Sink>(
     alloc: Global,
     script: &mut Script,
     input: &mut S,

@@ -1,6 +1,10 @@
-use Rattle.galera_run.proofs.Sources.{reads_nothing}
+use Rattle.galera_run.proofs.Endings.{if_err_map}
+use Rattle.galera_run.proofs.Sources.{reads_sent, reads_stop}
 use Rattle.galera_run.proofs.run.read_piece.Goals as goal
 
-pub returns-in-Err-clause-err : goal.returns-in-Err-clause-err
-returns-in-Err-clause-err g c =
-    (c.args.script.now, reads_nothing _ _ c.args.script.now _ c.in-Err.ensures.bytes, c.requires)
+pub returns-clause-err : goal.returns-clause-err
+returns-clause-err g c =
+    if_err_map c.run_piece.result
+    (λ f. reads_stop _ _ _ _ _ _ _ _ f
+    (reads_sent (g.S.Source.left c.args.input.now) c.args.script.now _ _ c.send_printed.ensures.kept))
+    c.run_piece.ensures.err

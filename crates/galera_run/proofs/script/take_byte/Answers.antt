@@ -1,6 +1,4 @@
-use Rattle.std.proofs.Common.{[], ◌∷◌, ◌++◌, arith, eq-eqb, subst, List, ℕ}
-use Rattle.std.specs.Prelude.{IfErr}
-use Rattle.galera_run.specs.Feeding.{LineStops}
+use Rattle.std.proofs.Common.{[], ◌∷◌, arith, eq-eqb}
 use Rattle.std.proofs.KnownBytes.{Keeps-refl}
 use Rattle.galera_run.proofs.Readings.{too_far, halts_there, line_stops}
 use Rattle.galera_run.proofs.Endings.{if_err_map}

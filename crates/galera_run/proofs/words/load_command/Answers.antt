@@ -1,7 +1,7 @@
 use Rattle.std.proofs.Common.{rules, ap₂, codes, ◌≡◌, ◌∙◌}
 use Rattle.std.proofs.lemmas.Result.{IfOk-weaker}
-use Rattle.clap.specs.Words.{app_of, rule_of, with_rule}
-use Rattle.galera_run.specs.Words.{option_rule, load_app}
+use Rattle.clap.specs.Words.{rule_of, with_rule}
+use Rattle.galera_run.specs.Words.{option_rule}
 use Rattle.galera_run.proofs.words.load_command.Goals as goal
 
 pub returns : goal.returns
