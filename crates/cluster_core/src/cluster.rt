@@ -5,7 +5,7 @@ ghost use Rattle.group_order.specs.Order.{start_order};
 ghost use Rattle.node_meaning.specs.Cluster.{start_cluster, cluster_step, will_order};
 
 use crate::fault::StepFault;
-use crate::seat::{Seat, has_left};
+use crate::seat::{Seat, leave_orders};
 use crate::steps::step_at;
 use group_order::Group;
 use order_event::{Act, Answer, Step};
@@ -122,8 +122,7 @@ impl<G: Group, W: Watcher> ClusterOf<G, W> {
         match step.act {
             Act::Order => place.outbox.min(1),
             Act::Drain => place.outbox,
-            Act::Leave if has_left(place.phase) => 0,
-            Act::Leave => 1,
+            Act::Leave => leave_orders(place.phase),
             _ => 0,
         }
     }

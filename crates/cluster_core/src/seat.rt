@@ -170,6 +170,7 @@ impl<W: Watcher> Seat<W> {
 }
 
 ghost use Rattle.std.specs.HashMap.{spare};
+ghost use Rattle.std.specs.Prelude.{if◌then◌else◌};
 ghost use Rattle.node_meaning.specs.Node.{is_left};
 ghost use Rattle.node_core.specs.Answers.{taken_answer, certified_answer, started_answer, advanced_answer, reported_answer, status_answer};
 ghost use Rattle.node_core.specs.Memory.{is_start};
@@ -183,6 +184,13 @@ pub(crate) fn has_left(phase: Phase) -> bool
         Phase::Left => true,
         Phase::Joining | Phase::Connected => false,
     }
+}
+
+/// How many events a leave of a node in this phase orders.
+pub(crate) fn leave_orders(phase: Phase) -> u64
+    ensures { result ≡ (if is_left phase then 0 else 1) }
+{
+    if has_left(phase) { 0 } else { 1 }
 }
 
 fn taken_answer(taken: Taken) -> Answer

@@ -18,16 +18,16 @@ pub returns-in_err-number-clause-err : goal.returns-in_err-number-clause-err
 returns-in_err-number-clause-err g c =
     err_by _ _ c.from_residual.result c.from_residual.ensures.1 (λ e from.
     let same : e ≡ step_fault c.in_err-number.field-0.0 = cc in
-    subst (Failed act.Leave (g.G.Group.order c.args.group.now) (g.G.Group.order c.leave-number.new.self) (seen c.args.seat.now) (seen c.args.seat.now)) (sym same)
-    (leave_failed (g.G.Group.order c.args.group.now) (g.G.Group.order c.leave-number.new.self) (seen c.args.seat.now) (step_fault c.in_err-number.field-0.0)
+    subst (Failed act.Leave (g.G.Group.order c.args.group.now) (g.G.Group.order c.leave.new.self) (seen c.args.seat.now) (seen c.args.seat.now)) (sym same)
+    (leave_failed (g.G.Group.order c.args.group.now) (g.G.Group.order c.leave.new.self) (seen c.args.seat.now) (step_fault c.in_err-number.field-0.0)
     c.in_err-number.ensures.err c.requires.kept
     (ap is_left (sym c.place-place.ensures.phase) ∙ sym c.has_left.ensures ∙ c.if-has_left.false)))
 
 pub returns-clause-ok : goal.returns-clause-ok
 returns-clause-ok g c =
-    left_now (g.G.Group.order c.args.group.now) (g.G.Group.order c.leave-number.new.self) (seen c.args.seat.now) c.leave-_watcher.new.self.parts
+    left_now (g.G.Group.order c.args.group.now) (g.G.Group.order c.leave.new.self) (seen c.args.seat.now) c.leave-watcher.new.self.parts
     c.in_ok-number.number
     (ap is_left (sym c.place-place.ensures.phase) ∙ sym c.has_left.ensures ∙ c.if-has_left.false)
     (let e = c.in_ok-number.ensures.ok in let f = c.place-place.ensures.member in cc)
     c.in_ok-number.ensures.number
-    (c.leave-_watcher.ensures.does (g.G.Group.order c.args.group.now) c.requires.kept.seated.stands) c.requires.kept
+    (c.leave-watcher.ensures.does (g.G.Group.order c.args.group.now) c.requires.kept.seated.stands) c.requires.kept

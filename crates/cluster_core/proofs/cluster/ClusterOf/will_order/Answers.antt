@@ -22,7 +22,7 @@ returns-in-Drain g c =
 
 pub returns-in-Leave : goal.returns-in-Leave
 returns-in-Leave g c =
-    will_is c.args.self.now.model c.self.inside.seats.items _ c.args.step.now c.index.result.now 0
+    will_is c.args.self.now.model c.self.inside.seats.items _ c.args.step.now c.index.result.now c.leave_orders.result
     (ap (λ (v : ClusterState). v.model.nodes) c.self.view_is) (ap (λ k. k - 1) c.from.ensures) c.requires c.index.ensures
-    (ap (λ b. cond b 0 1) (sym c.has_left.true ∙ c.has_left.ensures ∙ ap is_left c.place-place.ensures.phase)
+    (c.leave_orders.ensures ∙ ap (λ phase. cond (is_left phase) 0 1) c.place-place.ensures.phase
     ∙ ap (λ a. node_orders a (plain_of c.index.result.now.node.parts)) (sym c.in-Leave.is))
