@@ -12,6 +12,7 @@ use wsrep_watch::{ListWatcher, Note, Watcher};
 
 // What became of watchers: how many were dropped, how many notes these had heard, all numbers of
 // the notes together, and those at which they were told their end.
+#[derive(Drop)]
 struct Seen {
     drops: AtomicU64,
     notes: AtomicU64,
