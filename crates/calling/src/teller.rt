@@ -1,11 +1,11 @@
-//! A watcher of the caller's own: it adds up what it hears.
+//! A watcher of the caller's own: it keeps the last number that it heard of.
 ghost use Rattle.std.specs.Prelude.{None};
 
 use std::sync::Arc;
 use std::sync::atomic::{AtomicU64, Ordering};
 use wsrep_watch::{Note, Watcher};
 
-/// Counts the numbers that its node commits. The count outlives it.
+/// Keeps the last number that its node committed, in a place that outlives it.
 #[derive(Drop)]
 pub(crate) struct Teller {
     pub(crate) heard: Arc<AtomicU64>,
