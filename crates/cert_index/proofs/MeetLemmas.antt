@@ -1,17 +1,18 @@
 -- Which entries meet some keys, told by the kinds at the same parts.
-use Rattle.std.proofs.Common.{◌≡◌, ℕ, ◌+◌, ◌<◌, length, take, get_or, Bool, true, false, cond, ◌||◌, ◌&&◌, List, [], ◌∷◌, ◌++◌, Option, Some, None, refl, sym, ap, ◌∙◌}
+use Rattle.std.proofs.Common.{◌≡◌, ℕ, length, Bool, true, false, cond, ◌||◌, ◌&&◌, List, [], ◌∷◌, ◌++◌, Option, Some, None, refl, sym, ap, ◌∙◌, IsPermutation}
 use Rattle.std.specs.Prelude.{flat_map}
 use Rattle.std.specs.List.{list_any}
-use Rattle.std.proofs.lemmas.List.{take_more}
 use Rattle.std.proofs.lemmas.List.Concat.{flat_map-append}
 use Rattle.std.proofs.lemmas.List.Folds.{list_any-append}
+use Rattle.std.proofs.lemmas.List.Sorted.{list_any-IsPermutation, length_permutation}
+use Rattle.finite_map.specs.FiniteMap.{len}
 use Rattle.key_sets.specs.declared.kind.Kind.{Kind}
 use Rattle.key_sets.specs.declared.kind.Kind.TheVariants.{Shared, Update, Exclusive}
 use Rattle.key_sets.specs.declared.parts.Parts.{Parts}
-use Rattle.key_sets.specs.Keys.{pairs_meet, pairs_of_key, table_pair}
+use Rattle.key_sets.specs.Keys.{Keys, pairs_meet, pairs_of_key, table_pair}
 use Rattle.key_sets.specs.Parts.{same_parts, table_of}
 use Rattle.cert_meaning.specs.Extremes.{greater}
-use Rattle.cert_meaning.proofs.ExtremeLemmas.{greater-none}
+use Rattle.cert_meaning.proofs.ExtremeLemmas.{greater-assoc, greater-none}
 use Rattle.cert_index.specs.declared.pair.Pair.{Pair}
 use Rattle.cert_index.specs.Index.{Entry, latest, meets}
 use Rattle.cert_index.specs.Pairs.{is_at, is_pair, same_kind}
@@ -44,6 +45,12 @@ module _ {X : Type 0} where
   any-and true f xs = refl
   any-and false f xs = any-none xs
 
+  any-flat : {Y : Type 0} (f : Y → Bool) (g : X → List Y) (xs : List X)
+      → list_any f (flat_map g xs) ≡ list_any (λ x. list_any f (g x)) xs
+  any-flat f g [] = refl
+  any-flat f g (x ∷ xs) =
+      list_any-append f (g x) (flat_map g xs) ∙ ap (λ b. list_any f (g x) || b) (any-flat f g xs)
+
 module _ (test : Kind → Kind → Bool) where
   -- an entry meets two lists of keys where it meets one of them
   pub meets-append : (ks ls : List (Parts × Kind)) (e : Entry) → meets test (ks ++ ls) e ≡ meets test ks e || meets test ls e
@@ -54,24 +61,44 @@ module _ (test : Kind → Kind → Bool) where
       (pairs_of_key e.key)
 
   -- the latest that meets one key more
-  pub latest-more : (ks : List (Parts × Kind)) (k : Parts × Kind) (es : List Entry)
-      → greater (latest (meets test ks) es) (latest (meets test (k ∷ [])) es) ≡ latest (meets test (ks ++ k ∷ [])) es
-  latest-more ks k es =
-      sym (latest-or (meets test ks) (meets test (k ∷ [])) es)
-      ∙ (λ i. latest (λ e. sym (meets-append ks (k ∷ []) e) i) es)
+  latest-more : (k : Parts × Kind) (ks : List (Parts × Kind)) (es : List Entry)
+      → greater (latest (meets test (k ∷ [])) es) (latest (meets test ks) es) ≡ latest (meets test (k ∷ ks)) es
+  latest-more k ks es =
+      sym (latest-or (meets test (k ∷ [])) (meets test ks) es)
+      ∙ (λ i. latest (λ e. sym (meets-append (k ∷ []) ks e) i) es)
 
-  -- the latest that meets the keys up to the next one, from those before and from that one
-  pub latest-next : (keys : List (Parts × Kind)) (i : ℕ) (d : Parts × Kind) (es : List Entry) → i < length keys
-      → (before one after : Option ℕ)
-      → before ≡ latest (meets test (take i keys)) es → one ≡ latest (meets test (get_or keys i d ∷ [])) es
-      → after ≡ greater before one → after ≡ latest (meets test (take (i + 1) keys)) es
-  latest-next keys i d es inside before one after at_before at_one at_after =
-      at_after ∙ (λ j. greater (at_before j) (at_one j)) ∙ latest-more (take i keys) (get_or keys i d) es
-      ∙ ap (λ ks. latest (meets test ks) es) (sym (take_more keys i d inside))
+  -- once the first of the keys that are left is gone over, what was found and the rest are still the whole
+  pub latest-next : (left next : List (Parts × Kind)) (k : Parts × Kind) (es : List Entry) → left ≡ k ∷ next
+      → (before one after all : Option ℕ) → greater before (latest (meets test left) es) ≡ all
+      → one ≡ latest (meets test (k ∷ [])) es → after ≡ greater before one
+      → greater after (latest (meets test next) es) ≡ all
+  latest-next left next k es is before one after all at_before at_one at_after =
+      let rest = latest (meets test next) es in
+      (λ i. greater (at_after i) rest) ∙ greater-assoc before one rest
+      ∙ ap (greater before) ((λ i. greater (at_one i) rest) ∙ latest-more k next es ∙ ap (λ ks. latest (meets test ks) es) (sym is))
+      ∙ at_before
 
   -- no key is met where there is none
-  pub latest-no_keys : (es : List Entry) → latest (meets test []) es ≡ None
+  latest-no_keys : (es : List Entry) → latest (meets test []) es ≡ None
   latest-no_keys es = latest-none_of (meets test []) (λ e. any-none (pairs_of_key e.key)) es
+
+  -- where no key is left, what was found is the whole
+  pub latest-all : (left : List (Parts × Kind)) (es : List Entry) → left ≡ [] → (found all : Option ℕ)
+      → greater found (latest (meets test left) es) ≡ all → found ≡ all
+  latest-all left es is found all at_found =
+      sym (greater-none found)
+      ∙ ap (greater found) (sym (ap (λ ks. latest (meets test ks) es) is ∙ latest-no_keys es))
+      ∙ at_found
+
+  -- the order of the keys is nothing to it
+  pub latest-moved : (ks ls : List (Parts × Kind)) → IsPermutation ks ls → (es : List Entry)
+      → latest (meets test ks) es ≡ latest (meets test ls) es
+  latest-moved ks ls moved es =
+      let same : (p : Parts × Kind) → list_any (pairs_meet test p) (flat_map pairs_of_key ks)
+      ≡ list_any (pairs_meet test p) (flat_map pairs_of_key ls) =
+      λ p. any-flat (pairs_meet test p) pairs_of_key ks ∙ list_any-IsPermutation _ ks ls moved
+      ∙ sym (any-flat (pairs_meet test p) pairs_of_key ls) in
+      λ i. latest (λ e. list_any (λ p. same p i) (pairs_of_key e.key)) es
 
   -- an entry meets the key of a row by the key itself or at its table
   row_meets : (p : Parts) (kind : Kind) (name : List ℕ) → p.row ≡ Some name → (e : Entry)
@@ -166,3 +193,8 @@ module _ (test : Kind → Kind → Bool) (p : Parts) (kind : Kind) where
       ∙ (λ i. greater (latest-and (test Shared kind) (is_at (pair p Shared)) es i)
       (greater (latest-and (test Update kind) (is_at (pair p Update)) es i)
       (latest-and (test Exclusive kind) (is_at (pair p Exclusive)) es i))))
+
+-- a walk goes over as many keys as the set has
+pub length-moved : (keys : Keys) (ls : List (Parts × Kind)) → IsPermutation keys.entries ls → length ls ≡ len keys
+unfolding len
+length-moved keys ls moved = length_permutation keys.entries ls moved

@@ -1,4 +1,4 @@
-ghost use Rattle.std.specs.Prelude.{◌≡◌, ◌+◌, ◌*◌, ◌<◌, ◌≤◌, ◌++◌, [], ◌∷◌, cond, length, None, IfOk, OnOk, OnErr, IsOk};
+ghost use Rattle.std.specs.Prelude.{◌≡◌, ◌+◌, ◌*◌, ◌<◌, ◌≤◌, ◌++◌, [], ◌∷◌, cond, None, IfOk, OnOk, OnErr, IsOk};
 ghost use Rattle.finite_map.specs.FiniteMap.{len};
 ghost use Rattle.key_sets.specs.Probes.{kind_test};
 ghost use Rattle.key_sets.specs.declared.relation.Relation.TheVariants.{Conflict};
@@ -55,19 +55,19 @@ impl Index {
     /// look-up of a kind at some parts, and there are at most four a key.
     pub fn conflict<L: Ledger>(
         &self,
-        keys: &[(Parts, Kind)],
+        keys: &KeySet,
         last_seen: u64,
         steps: &mut Steps<L>,
     ) -> Option<u64>
-        ensures latest { result ≡ latest_conflict self.now last_seen keys.now }
-        ensures steps { steps.new ≤ steps.old + 4 * length keys.now }
+        ensures latest { result ≡ latest_conflict self.now last_seen keys.now.entries }
+        ensures steps { steps.new ≤ steps.old + 4 * len keys.now }
     {
         only_above(last_seen, self.met(Relation::Conflict, keys, steps))
     }
 
     /// The greatest commit whose keys touch these.
-    pub fn dependency(&self, keys: &[(Parts, Kind)]) -> Option<u64>
-        ensures { result ≡ latest_touch self.now keys.now }
+    pub fn dependency(&self, keys: &KeySet) -> Option<u64>
+        ensures { result ≡ latest_touch self.now keys.now.entries }
     {
         self.touched::<Brand>(keys, Blank::new(1))
     }
@@ -103,30 +103,25 @@ impl Index {
     }
 
     // The greatest commit whose keys touch these, with the counter made that nobody reads.
-    fn touched<L: Ledger>(&self, keys: &[(Parts, Kind)], blank: Blank) -> Option<u64>
+    fn touched<L: Ledger>(&self, keys: &KeySet, blank: Blank) -> Option<u64>
         requires name { blank.name ≡ L.name }
         requires parts { blank.parts ≡ L.parts }
         requires some { 0 < blank.parts }
-        ensures { result ≡ latest_touch self.now keys.now }
+        ensures { result ≡ latest_touch self.now keys.now.entries }
     {
         let mut steps = Steps::<L>::new(blank);
         self.met(Relation::Touch, keys, &mut steps)
     }
 
     // The greatest commit whose keys are so related to these.
-    fn met<L: Ledger>(
-        &self,
-        relation: Relation,
-        keys: &[(Parts, Kind)],
-        steps: &mut Steps<L>,
-    ) -> Option<u64>
-        ensures latest { result ≡ latest (meets (kind_test relation) keys.now) self.now }
-        ensures most { steps.new ≤ steps.old + 5 * length keys.now }
-        ensures conflict { relation ≡ Conflict → steps.new ≤ steps.old + 4 * length keys.now }
+    fn met<L: Ledger>(&self, relation: Relation, keys: &KeySet, steps: &mut Steps<L>) -> Option<u64>
+        ensures latest { result ≡ latest (meets (kind_test relation) keys.now.entries) self.now }
+        ensures most { steps.new ≤ steps.old + 5 * len keys.now }
+        ensures conflict { relation ≡ Conflict → steps.new ≤ steps.old + 4 * len keys.now }
     {
         let mut latest = None;
-        for key in keys {
-            latest = greater(latest, self.met_by(relation, key, steps));
+        for (parts, kind) in keys.iter() {
+            latest = greater(latest, self.met_by(relation, parts, *kind, steps));
         }
         latest
     }
@@ -135,16 +130,18 @@ impl Index {
     fn met_by<L: Ledger>(
         &self,
         relation: Relation,
-        key: &(Parts, Kind),
+        parts: &Parts,
+        kind: Kind,
         steps: &mut Steps<L>,
     ) -> Option<u64>
-        ensures latest { result ≡ latest (meets (kind_test relation) (key.now ∷ [])) self.now }
+        ensures latest { result
+            ≡ latest (meets (kind_test relation) ((parts.now, kind) ∷ [])) self.now }
         ensures most { steps.new ≤ steps.old + 5 }
         ensures conflict { relation ≡ Conflict → steps.new ≤ steps.old + 4 }
     {
-        let own = self.met_at(relation, key.0, key.1, steps);
-        let at_table = match key.0.row {
-            Some(_) => self.met_at(relation, key.0.table_parts(), Kind::Shared, steps),
+        let own = self.met_at(relation, *parts, kind, steps);
+        let at_table = match parts.row {
+            Some(_) => self.met_at(relation, parts.table_parts(), Kind::Shared, steps),
             None => None,
         };
         greater(own, at_table)

@@ -8,4 +8,4 @@ use Rattle.cert_index.proofs.index.Index.conflict.Goals as goal
 pub returns-clause-latest : goal.returns-clause-latest
 returns-clause-latest g c =
     c.only_above.ensures ∙ ap (only_above c.args.last_seen) c.met.ensures.latest
-    ∙ sym (latest-above (meets kinds_conflict c.args.keys.now) c.args.last_seen c.args.self.now)
+    ∙ sym (latest-above (meets kinds_conflict c.args.keys.now.entries) c.args.last_seen c.args.self.now)

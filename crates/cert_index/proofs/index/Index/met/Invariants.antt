@@ -1,13 +1,16 @@
-use Rattle.std.proofs.Common.{◌≡◌, ◌+◌, ◌*◌, ◌≤◌, take}
+use Rattle.std.proofs.Common.{◌≡◌, ◌+◌, ◌*◌, ◌≤◌, length}
 use Rattle.key_sets.specs.declared.relation.Relation.TheVariants.{Conflict}
 use Rattle.key_sets.specs.Probes.{kind_test}
+use Rattle.cert_meaning.specs.Extremes.{greater}
 use Rattle.cert_index.specs.Index.{latest, meets}
 use Rattle.cert_index.proofs.index.Index.met.Given as goal
 
--- the latest that meets the keys that were gone over
-abbrev pub invariant-loop-key : goal.invariant-loop-key
-invariant-loop-key g l = record {
-  latest : l.latest ≡ latest (meets (kind_test l.relation) (take l.key-index l.keys)) l.self;
-  most : l.steps ≤ l.fn.steps + 5 * l.key-index;
-  conflict : l.relation ≡ Conflict → l.steps ≤ l.fn.steps + 4 * l.key-index;
+-- what was found, and the latest that meets the keys that are left
+abbrev pub invariant-loop-parts : goal.invariant-loop-parts
+invariant-loop-parts g l = record {
+  latest : greater l.latest (latest (meets (kind_test l.relation) l.parts-iterator) l.self)
+      ≡ latest (meets (kind_test l.relation) l.initial.parts-iterator) l.self;
+  most : l.steps + 5 * length l.parts-iterator ≤ l.fn.steps + 5 * length l.initial.parts-iterator;
+  conflict : l.relation ≡ Conflict
+      → l.steps + 4 * length l.parts-iterator ≤ l.fn.steps + 4 * length l.initial.parts-iterator;
 }

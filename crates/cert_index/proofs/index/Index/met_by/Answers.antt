@@ -13,13 +13,13 @@ use Rattle.cert_index.proofs.index.Index.met_by.Goals.{in-Some, in-None}
 pub returns-clause-latest : goal.returns-clause-latest
 returns-clause-latest g c =
     let test = kind_test c.args.relation in
-    let key = c.args.key.now in
+    let parts = c.args.parts.now in
     let kept = c.args.self.now in
-    elim c.match-key.branch [
+    elim c.match-parts.branch [
       | in-Some w ↦ let at_table = w.at_table-is ∙ w.met_at-at_table.ensures.latest
           ∙ ap (λ (p : Parts). latest (pair_meets test (p, Shared)) kept) w.table_parts.ensures in
           c.greater.ensures ∙ (λ i. greater (c.met_at-own.ensures.latest i) (at_table i))
-          ∙ latest-row test key.0 key.1 w.in-Some.field-0 w.in-Some.is kept
+          ∙ latest-row test parts c.args.kind w.in-Some.field-0 w.in-Some.is kept
       | in-None w ↦ c.greater.ensures ∙ (λ i. greater (c.met_at-own.ensures.latest i) (w.at_table-is i))
-          ∙ latest-table test key.0 key.1 w.in-None.is kept
+          ∙ latest-table test parts c.args.kind w.in-None.is kept
     ]
