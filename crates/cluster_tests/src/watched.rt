@@ -91,32 +91,43 @@ const LEAVE: &str = "\
 2 take : TOOK 2
 1 leave : LEFT 3";
 
-// The rows, with three watchers; what is seen of them behind the rows, and then behind the nodes'
-// end.
+// The rows, with watchers whose nodes end behind them: what was seen of three, before that end.
 fn watched<W: Watcher>(
     rt: &impl Abort,
     alloc: Global,
-    seen: &Seen,
+    seen: &[Arc<Seen>; 3],
     watch: Vec<W>,
-) -> Result<([u64; 4], [u64; 4]), Fail> {
+) -> Result<[[u64; 4]; 3], Fail> {
     let run = run_rows(rt, alloc, 0, watch, LEAVE)?;
-    let behind = seen.all();
+    let behind = all_of(seen);
     drop(run);
-    Ok((behind, seen.all()))
+    Ok(behind)
+}
+
+fn all_of(seen: &[Arc<Seen>; 3]) -> [[u64; 4]; 3] {
+    [seen[0].all(), seen[1].all(), seen[2].all()]
 }
 
 #[test]
 fn a_watcher_hears_each_number_once_and_its_end_at_the_leave(rt: HostRuntime) -> Result<(), Fail> {
-    let seen = Arc::new(rt.alloc(), Seen::new())?;
-    let mut watch = Vec::new(rt.alloc());
-    for _ in 0..3 {
-        watch.push(boxed(rt.alloc(), &seen)?)?;
+    let alloc = rt.alloc();
+    let seen = [
+        Arc::new(alloc, Seen::new())?,
+        Arc::new(alloc, Seen::new())?,
+        Arc::new(alloc, Seen::new())?,
+    ];
+    let mut watch = Vec::new(alloc);
+    for each in &seen {
+        watch.push(boxed(alloc, each)?)?;
     }
-    let (behind, end) = watched::<Box<dyn Watcher + Send>>(&rt, rt.alloc(), &seen, watch)?;
-    // The third, which no node has, was told that it ended at 0. That of node 1 heard of 1 and 2,
-    // and was told that it ended at 2.
-    assert_eq!(rt; behind, [2, 2, 3, 2]);
+    let behind = watched::<Box<dyn Watcher + Send>>(&rt, alloc, &seen, watch)?;
+    // That of node 1 heard of 1 and 2, and was told that it ended at 2; that of node 2 is not
+    // dropped yet; the third, which no node has, was told that it ended at 0.
+    assert_eq!(rt; behind, [[1, 2, 3, 2], [0, 0, 0, 0], [1, 0, 0, 0]]);
     // That of node 2 heard of 1, and is dropped without an end.
-    assert_eq!(rt; end, [3, 3, 4, 1002]);
+    assert_eq!(rt;
+        all_of(&seen),
+        [[1, 2, 3, 2], [1, 1, 1, 1000], [1, 0, 0, 0]]
+    );
     Ok(())
 }
