@@ -153,6 +153,35 @@ def taken_is_unknown(run, node, session, call, answer):
         yield from ("UNKNOWN", "DISCONNECTED")
 
 
+def join_turned(run, node, session, call, answer):
+    """A join gives a member that a view had, or another number, or is refused."""
+    words = answer.split()
+    if words[0] == "JOINING":
+        view, member = int(words[1]), int(words[3])
+        yield from (f"JOINING {view} MEMBER {it}" for it in (member - 1, member + 1, node.member))
+        yield from (f"JOINING {view + 1} MEMBER {member}", "STILL JOINED", "NOTHING")
+
+
+def transfer_turned(run, node, session, call, answer):
+    """A transfer goes by events that the ring has not, by a snapshot where it has them, from a
+    donor that is behind or busy, or to another number."""
+    words = answer.split()
+    if call[0] == "transfer" and node.joining:
+        donor = run.nodes[int(call[1])]
+        yield f"IST {node.committed + 1} {donor.taken}"
+        yield from (f"SST {donor.committed}", f"SST {donor.taken}", "NO DONOR", "NOT JOINING")
+        yield f"DONOR BUSY {donor.certified} {donor.committed}"
+        yield f"DONOR BEHIND {node.view} {donor.taken}"
+    if words[0] in ("IST", "SST"):
+        yield " ".join([*words[:-1], str(int(words[-1]) + 1)])
+
+
+def answered_while_joining(run, node, session, call, answer):
+    """A session of a node that has not committed the view of its member is served."""
+    if session and answer == "NOT SYNCED":
+        yield from ("OK", "NO TRX", "DISCONNECTED", "PENDING")
+
+
 def status_turned(run, node, session, call, answer):
     """A status has another floor, or counts other entries or open transactions."""
     words = answer.split()
@@ -230,7 +259,8 @@ def spared(run, node, session, call, answer):
 OF_A_LINE = [
     of_another_number, of_nothing, lost, commit_as_deadlock, twice, before_its_commit,
     names_a_failed_one, names_one_behind, names_one_apart, names_its_own, deadlock_as_other,
-    rolled_back_as_other, left_as_other, taken_is_unknown, status_turned, fragment_shown,
+    rolled_back_as_other, left_as_other, taken_is_unknown, join_turned, transfer_turned,
+    answered_while_joining, status_turned, fragment_shown,
     open_change_shown, ended_change_shown,
     commit_shown_early, own_change_hidden, verdict_turned, spared,
 ]  # fmt: skip

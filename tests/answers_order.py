@@ -53,17 +53,23 @@ def meet(one, other, related):
     return any(related(a, b) for parts in less for a in less[parts] for b in more.get(parts, ()))
 
 
-# A row is a tuple of values, or None where there is none. A change is a function from row to row.
+# A row is a tuple of values, or None where there is none. A change is a function from row to row;
+# its size is that of its bytes behind its tag and its row.
 
 
 def inserted(values):
-    return lambda old: values
+    def change(old):
+        return values
+
+    change.size = 1 + 8 * len(values)
+    return change
 
 
 def updated(pairs):
     def change(old):
         return old and tuple(pairs.get(column, value) for column, value in enumerate(old, 1))
 
+    change.size = 1 + 9 * len(pairs)
     return change
 
 
@@ -71,9 +77,18 @@ def deleted(old):
     return None
 
 
+deleted.size = 0
+
+
+def place_size(parts):
+    """The bytes of a row's names, or of a table's."""
+    return sum(1 + len(name) for name in parts if name is not None)
+
+
 class Transaction:
     def __init__(self, node, session, begin, unit):
         self.node, self.session, self.begin, self.unit = node, session, begin, unit
+        self.member = node.member
         self.status, self.keys, self.changes_at = RUNNING, {}, {}
         self.new_keys, self.new_changes, self.fragments = {}, [], 0
         self.events, self.told, self.told_at, self.images = [], None, None, {}
@@ -114,10 +129,18 @@ class Event:
         self.kind, self.member, self.trx, self.form = kind, member, trx, form
         self.last_seen, self.serial = last_seen, serial
         self.keys, self.changes, self.fragment = {}, [], 0
-        self.number, self.verdict, self.commits = None, PASS, None
+        self.number, self.verdict, self.commits, self.members = None, PASS, None, ()
 
     def is_commit(self):
         return self.form == "COMMIT" and self.verdict == PASS
+
+    def entry(self):
+        """What it takes in a ring of events."""
+        if self.kind != "WRITE":
+            return 24 + (13 if self.kind == "REPORT" else 9 + 4 * len(self.members))
+        keys = sum(2 + place_size(parts) for parts in self.keys)
+        changes = sum(1 + place_size(at) + change.size for at, change in self.changes)
+        return 24 + 9 + 42 + keys + changes
 
     def touching_keys(self):
         """Its keys, or all of its transaction where it is a commit that passed."""
@@ -137,7 +160,7 @@ class Fold:
 
     def __init__(self, members):
         self.order, self.floor, self.commits, self.open = [], 0, [], {}
-        self.reports, self.serials = {}, {}
+        self.reports, self.serials, self.last_member = {}, {}, 0
         # By number: the floor and the count of open transactions after so many events.
         self.floors, self.opens = [0], [0]
         self.view(members)
@@ -145,14 +168,21 @@ class Fold:
     def view(self, members):
         """The members from here on. What is open of absent ones goes."""
         event = Event("VIEW")
+        event.members = members
+        self.last_member = max([self.last_member, *members])
         self.enter(event)
         self.reports = {it: self.reports.get(it, event.number) for it in members}
         self.serials = {it: self.serials.get(it, 0) for it in members}
-        self.open = {trx: it for trx, it in self.open.items() if trx.node.number in self.reports}
+        self.open = {trx: it for trx, it in self.open.items() if trx.member in self.reports}
         self.settle()
 
     def leave(self, member):
         self.view([it for it in self.reports if it != member])
+
+    def join(self):
+        """A new member enters, whose number no view had before."""
+        self.view([*self.reports, self.last_member + 1])
+        return self.last_member
 
     def settle(self):
         self.floor = min(self.reports.values(), default=self.floor)

@@ -6,7 +6,7 @@ import subprocess
 from answers_order import RUNNING, UPDATE, Wrong
 from answers_run import Run
 
-HEADER = "cluster {} gcache 65536 id 00000000-0000-0000-0000-0000000000a1"
+HEADER = "cluster {} gcache {} id 00000000-0000-0000-0000-0000000000a1"
 ROWS = [(table, row) for table in ("acct", "log") for row in ("a", "b", "c")]
 
 
@@ -21,7 +21,9 @@ class Random:
         self.streams = self.draw.choice([0.1, 0.4, 0.8])
         self.drains = self.draw.choice([0.02, 0.1, 0.3])
         self.leaves = self.draw.choice([0, 0, 0.05, 0.3])
-        self.run, self.value, self.opening = Run(self.nodes), 0, []
+        self.joins = self.draw.choice([0.05, 0.5, 2])
+        self.gcache = self.draw.choice([0, 300, 1000, 65536])
+        self.run, self.value, self.opening = Run(self.nodes, self.gcache), 0, []
         if self.draw.random() < 0.7:
             self.opening = self.first_rows()
 
@@ -47,7 +49,8 @@ class Random:
         trx = node.live.get(session)
         at = self.draw.choice(self.rows)
         read = f"read {at[0]} {at[1]}"
-        if session in node.waiting or node.left or trx and trx.status != RUNNING:
+        closed = not node.is_synced()
+        if session in node.waiting or closed or trx and trx.status != RUNNING:
             return self.chance({"poll": 6, read: 1, "begin": 1})
         if not trx:
             stream = self.draw.random() < self.streams
@@ -81,7 +84,7 @@ class Random:
             return "drain"
         found = {"order": 3 if node.outbox else 0.05}
         found["advance"] = 2 if node.committed < node.certified else 0.05
-        more = not node.left and node.taken < len(self.run.fold.order)
+        more = node.is_connected() and node.taken < len(self.run.fold.order)
         found["take"] = 4 if more else 0.05
         found["certify"] = 4 if node.certified < node.taken else 0.05
         for n in range(node.committed + 1, node.certified + 1):
@@ -92,13 +95,20 @@ class Random:
         found["report"] = 0.5
         found["status"] = 0.3
         found["leave"] = 0.01 if node.left else self.leaves
+        self.add_joins(node, found)
         return self.chance(found)
+
+    def add_joins(self, node, found):
+        found["join"] = self.joins * (1 if node.left else 0.01)
+        found["join fresh"] = found["join"] / 5
+        for donor in self.run.nodes:
+            found[f"transfer {donor}"] = self.joins * (2 if node.joining else 0.005)
 
 
 def random_run(seed, program):
     """A schedule of this seed, and the text that the program prints for it."""
     steps = Random(seed)
-    lines, text = [HEADER.format(steps.nodes)], []
+    lines, text = [HEADER.format(steps.nodes, steps.gcache)], []
     pipes = {"stdin": subprocess.PIPE, "stdout": subprocess.PIPE}
     with subprocess.Popen([program, "steps"], text=True, **pipes) as ran:
         try:

@@ -19,9 +19,18 @@ class Node:
 
     def __init__(self, number):
         self.number, self.taken, self.certified, self.committed = number, 0, 0, 0
+        # Its member, the number of the view in which that entered, and that of its last snapshot.
+        self.member, self.view, self.since = number, 1, 0
         self.serial = self.begin = 1
         self.outbox, self.units, self.rows = [], {}, {}
-        self.live, self.waiting, self.left = {}, {}, False
+        self.live, self.waiting = {}, {}
+        self.left, self.joining, self.has_id = False, False, True
+
+    def is_connected(self):
+        return not self.left and not self.joining
+
+    def is_synced(self):
+        return self.is_connected() and self.committed >= self.view
 
     def seen(self, session, at):
         """The row that a session sees: its own open changes done on the committed row."""
@@ -43,7 +52,7 @@ class Node:
         return [f"node {self.number} at {self.committed}", *shown]
 
     def send(self, trx, form):
-        event = Event("WRITE", self.number, trx, form, self.committed, self.serial)
+        event = Event("WRITE", self.member, trx, form, self.committed, self.serial)
         if form != "ROLLBACK":
             event.keys, event.changes = trx.new_keys, trx.new_changes
             event.fragment = trx.fragments
@@ -76,7 +85,17 @@ class Node:
                 self.end(trx, "DISCONNECTED")
             elif trx.status in (COMMIT_SENT, KILLED_SENT) and not self.has_taken_commit(trx):
                 self.end(trx, "UNKNOWN")
-        self.outbox, self.left = [], True
+        self.outbox, self.left, self.joining = [], True, False
+
+    def join(self, fresh, member, view):
+        """It is a new member, whose write sets and transactions are counted anew."""
+        self.member, self.view, self.serial, self.begin = member, view, 1, 1
+        self.left, self.joining, self.has_id = False, True, self.has_id and not fresh
+
+    def install(self, donor):
+        """It takes the state of a node that has committed all that it certified."""
+        self.taken = self.certified = self.committed = self.since = donor.committed
+        self.rows, self.joining, self.has_id = dict(donor.rows), False, True
 
     def has_taken_commit(self, trx):
         return any(it.form == "COMMIT" and it.number <= self.taken for it in trx.events)
@@ -102,7 +121,8 @@ class Node:
 class Run:
     """A schedule as it is followed: each step with its answer, which is Wrong or is done."""
 
-    def __init__(self, nodes):
+    def __init__(self, nodes, gcache=65536):
+        self.gcache = gcache
         self.fold = Fold(range(1, nodes + 1))
         self.nodes = {number: Node(number) for number in range(1, nodes + 1)}
         self.trxs = []
@@ -114,7 +134,8 @@ class Run:
         if session:
             self.client(node, int(session), words[1:], answer, at)
         else:
-            getattr(self, words[1])(node, answer, *map(int, words[2:]))
+            values = [int(word) if word.isdecimal() else word for word in words[2:]]
+            getattr(self, words[1])(node, answer, *values)
 
     def end(self):
         """What was told stands, whatever came later."""
@@ -148,7 +169,7 @@ class Run:
             self.is_told(answer, "PENDING")
         elif node.left:
             self.is_told(answer, "DISCONNECTED")
-        elif node.committed < 1:
+        elif not node.is_synced():
             self.is_told(answer, "NOT SYNCED")
         elif call[0] == "begin":
             self.is_told(answer, "IN TRX" if trx else "OK")
@@ -261,7 +282,7 @@ class Run:
             self.fold.put(node.outbox.pop(0))
 
     def take(self, node, answer):
-        more = not node.left and node.taken < len(self.fold.order)
+        more = node.is_connected() and node.taken < len(self.fold.order)
         due = f"TOOK {node.taken + 1}" if more else "NOTHING"
         self.is_answered(answer, due)
         node.taken += more
@@ -272,7 +293,7 @@ class Run:
         due = event.text() if event else "NOTHING"
         self.is_answered(due if answer is None else answer, due)
         node.certified += more
-        if event and event.kind == "WRITE" and event.member == node.number:
+        if event and event.kind == "WRITE" and event.member == node.member:
             node.judge_own(event)
 
     def is_local(self, node, n):
@@ -333,11 +354,11 @@ class Run:
                 node.end(event.trx, "COMMITTED")
 
     def report(self, node, answer):
-        ready = node.committed and not node.left
+        ready = node.is_synced()
         refusal = "DISCONNECTED" if node.left else "NOT SYNCED"
         self.is_answered(answer, f"REPORTED {node.committed}" if ready else refusal)
         if ready:
-            node.outbox.append(Event("REPORT", node.number, last_seen=node.committed))
+            node.outbox.append(Event("REPORT", node.member, last_seen=node.committed))
 
     def status(self, node, answer):
         floor = self.fold.floors[node.certified]
@@ -353,13 +374,48 @@ class Run:
         due = "DISCONNECTED" if node.left else f"LEFT {len(self.fold.order) + 1}"
         self.is_answered(answer, due)
         if not node.left:
-            self.fold.leave(node.number)
+            self.fold.leave(node.member)
             node.leave()
+
+    def join(self, node, answer, fresh=None):
+        if not node.left:
+            self.is_answered(answer, "STILL JOINED")
+        elif node.taken != node.committed:
+            self.is_answered(answer, f"NOT DRAINED {node.taken} {node.committed}")
+        else:
+            member = self.fold.join()
+            view = len(self.fold.order)
+            node.join(fresh is not None, member, view)
+            self.is_answered(answer, f"JOINING {view} MEMBER {member}")
+
+    def transfer(self, node, answer, number):
+        donor = self.nodes[number]
+        if not node.joining:
+            self.is_answered(answer, "NOT JOINING")
+        elif not donor.is_connected():
+            self.is_answered(answer, "NO DONOR")
+        elif donor.taken < node.view:
+            self.is_answered(answer, f"DONOR BEHIND {node.view} {donor.taken}")
+        elif node.has_id and self.has_event(donor, node.committed + 1):
+            self.is_answered(answer, f"IST {node.committed + 1} {donor.taken}")
+            node.taken, node.joining = donor.taken, False
+        elif donor.certified != donor.committed:
+            self.is_answered(answer, f"DONOR BUSY {donor.certified} {donor.committed}")
+        elif donor.committed < node.view:
+            self.is_answered(answer, f"DONOR BEHIND {node.view} {donor.committed}")
+        else:
+            self.is_answered(answer, f"SST {donor.committed}")
+            node.install(donor)
+
+    def has_event(self, node, number):
+        """Whether the ring of a node has this event: all from it on fit, since the last snapshot."""
+        entries = (it.entry() for it in self.fold.order[number - 1 : node.taken])
+        return node.since < number <= node.taken and sum(entries) <= self.gcache
 
     def drain(self, node, answer):
         while node.outbox:
             self.order(node)
-        if not node.left:
+        if node.is_connected():
             node.taken = len(self.fold.order)
         while node.certified < node.taken:
             self.certify(node)
@@ -384,10 +440,9 @@ CALL = (
     f"begin|begin stream {N}|insert{ROW}( {N})+|update{ROW}( {N}={N})+"
     f"|(delete|share|read){ROW}|commit|rollback|poll"
 )
-# To come: join, join fresh, transfer D.
-VERB = f"order|take|certify|start {N}|finish {N}|advance|report|status|drain|leave"
-STEP = re.compile(rf"({N})(\.{N} ({CALL})| ({VERB}))")
-HEADER = re.compile(rf"cluster ({N}) gcache {N} id \S+")
+VERB = f"order|take|certify|start {N}|finish {N}|advance|report|status|drain|leave|join( fresh)?"
+STEP = re.compile(rf"({N})(\.{N} ({CALL})| ({VERB})| transfer ({N}))")
+HEADER = re.compile(rf"cluster ({N}) gcache ({N}) id \S+")
 
 
 def steps_of(schedule):
@@ -398,7 +453,7 @@ def steps_of(schedule):
     header = HEADER.fullmatch(" ".join(found[0][1])) if found else None
     if not header:
         raise Unread("the schedule has no header")
-    return min(int(header.group(1)), 9), found[1:]
+    return min(int(header.group(1)), 9), int(header.group(2)), found[1:]
 
 
 def pairs_of(nodes, steps, lines, early):
@@ -412,7 +467,8 @@ def pairs_of(nodes, steps, lines, early):
         if first != str(number):
             raise Unread(f"the text is not of the schedule: line {at} answers no line {number}")
         form = STEP.fullmatch(" ".join(words))
-        if not form or not 0 < int(form.group(1)) <= nodes:
+        named = [int(it) for it in (form.group(1), form.groups()[-1]) if it] if form else [0]
+        if not all(0 < it <= nodes for it in named):
             raise Unread(f"line {number} of the schedule is no step that is judged")
         yield at, words, answer
 
@@ -426,8 +482,8 @@ def judge(schedule, text, look=None):
     early = bool(lines) and re.fullmatch(r"READ|SCRIPT \d+ (grammar|limit)", lines[-1])
     if early and len(lines) == 1:
         return None
-    nodes, steps = steps_of(schedule)
-    run, told = Run(nodes), lines[:-1] if early else lines[: len(steps)]
+    nodes, gcache, steps = steps_of(schedule)
+    run, told = Run(nodes, gcache), lines[:-1] if early else lines[: len(steps)]
     for at, words, answer in pairs_of(nodes, steps, told, early):
         if look:
             look(run, at, words, answer)

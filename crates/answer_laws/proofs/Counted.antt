@@ -24,7 +24,7 @@ same_more a b c is = omega (arith, is)
 more : (a b c d : ℕ) → b ≡ c + d → a + b ≡ (a + c) + d
 more a b c d is = omega (arith, is)
 
-both_same : (a b c d : ℕ) → a ≡ c → b ≡ d → a + b ≡ c + d
+pub both_same : (a b c d : ℕ) → a ≡ c → b ≡ d → a + b ≡ c + d
 both_same a b c d one other = omega (arith, one, other)
 
 sum : (a b c d e : ℕ) → b ≡ c + (d + 0) → d ≡ e → a + b ≡ (a + c) + e

@@ -17,17 +17,17 @@ use Rattle.answer_laws.proofs.NodeSteps.{take_tells, certify_tells, finish_tells
 use Rattle.answer_laws.proofs.Kills.{start_waits}
 
 -- a node whose answers that wait are right, with its numbers in range
-pub record OnWay (order : List Event) (member most : ℕ) (askers : FiniteMap nat_cmp Asker)
-    (n : ModelNode) : Type 0 where
+pub record OnWay (former : List ℕ) (order : List Event) (member most : ℕ)
+    (askers : FiniteMap nat_cmp Asker) (n : ModelNode) : Type 0 where
   pub stays : Stays order member n
-  pub waits : Waits order n askers
+  pub waits : Waits former order n askers
   pub serial : n.at.serial + len n.live ≤ most
   pub begin : n.at.begin ≤ most
 
-module _ (order : List Event) (member most : ℕ) (small : member < 2 ^ 32)
+module _ (former : List ℕ) (order : List Event) (member most : ℕ) (small : member < 2 ^ 32)
     (few : most ≤ 2 ^ 63) (short : length order ≤ 2 ^ 63) (askers : FiniteMap nat_cmp Asker) where
   abbrev Way : ModelNode → Type 0
-  Way n = OnWay order member most askers n
+  Way n = OnWay former order member most askers n
 
   can : (n : ModelNode) → Way n → CanTakeBack n
   can n h =
@@ -39,10 +39,10 @@ module _ (order : List Event) (member most : ℕ) (small : member < 2 ^ 32)
       }
 
   by_row : (n m : ModelNode) → Way n → Reaches order (Unit {0}) true n 0 m
-      → Waits order m askers → Way m
+      → Waits former order m askers → Way m
   by_row n m h row waits =
       let grows = reach_grows order (Unit {0}) true n 0 m row in record {
-        stays = (still_holds order member (Unit {0}) tt None n m row h.stays tt).0;
+        stays = (still_holds former order member (Unit {0}) tt None n m row h.stays tt).0;
         waits = waits;
         serial = omega (arith, h.serial, grows.serial);
         begin = omega (arith, h.begin, grows.begin);
@@ -52,7 +52,7 @@ module _ (order : List Event) (member most : ℕ) (small : member < 2 ^ 32)
       → Way m
   by_tells n m h row tells =
       by_row n m h row
-      (still_waits order member (Unit {0}) tt n m row h.stays askers h.waits tells)
+      (still_waits former order member (Unit {0}) tt n m row h.stays askers h.waits tells)
 
   pub take_way : (n : ModelNode) → Way n → Way (take_step order n).1
   take_way n h = by_tells n _ h (take_moves order (Unit {0}) true n) (take_tells order n)
@@ -65,7 +65,7 @@ module _ (order : List Event) (member most : ℕ) (small : member < 2 ^ 32)
   pub start_way : (number : ℕ) (n : ModelNode) → Way n → Way (start_step order n number).1
   start_way number n h =
       by_row n _ h (start_moves order (Unit {0}) n number (λ _ _. can n h))
-      (start_waits order member askers n h.stays h.waits (can n h) number)
+      (start_waits former order member askers n h.stays h.waits (can n h) number)
 
   pub finish_way : (number : ℕ) (n : ModelNode) → Way n → Way (finish_step n number).1
   finish_way number n h =

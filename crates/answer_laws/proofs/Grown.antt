@@ -38,7 +38,7 @@ SameSent order outbox longer back member =
 sum_own : (a b c d e : ℕ) → a ≡ b + c → c ≡ d → a + e ≡ b + (d + e)
 sum_own a b c d e one two = omega (arith, one, two)
 
-sum_others : (a b c e : ℕ) → a ≡ b + c → c ≡ 0 → a + e ≡ b + e
+pub sum_others : (a b c e : ℕ) → a ≡ b + c → c ≡ 0 → a + e ≡ b + e
 sum_others a b c e one none = omega (arith, one, none)
 
 pub own_same : (order : List Event) (member : ℕ) (outbox front back : List Message)

@@ -71,18 +71,19 @@ module _ (order : List Event) (member number : ℕ) (item : CommitItem)
     status_by (status.Replaying k) now touching = put_due _ t refl
 
   -- what is known of each node on the way
-  record Way (askers : FiniteMap nat_cmp Asker) (n : ModelNode) : Type 0 where
+  record Way (former : List ℕ) (askers : FiniteMap nat_cmp Asker) (n : ModelNode)
+      : Type 0 where
     stays : Stays order member n
-    waits : Waits order n askers
+    waits : Waits former order n askers
     can : CanTakeBack n
     within : number ≤ n.at.certified
 
-  module _ (askers : FiniteMap nat_cmp Asker) where
+  module _ (former : List ℕ) (askers : FiniteMap nat_cmp Asker) where
     abbrev Touching : ModelNode → ℕ → Type 0
     Touching n s = (t : Live) → get n.live s ≡ Some t → has_locks t.status ≡ true
         → touches item.keys t.keys ≡ true
 
-    session_tells : (n : ModelNode) → Way askers n → (s : ℕ)
+    session_tells : (n : ModelNode) → Way former askers n → (s : ℕ)
         → (o : Option Live) → get n.live s ≡ o → Touching n s
         → Tells order n (killed_session number n s o)
     session_tells n h s None there touching = same_tells order n n refl refl
@@ -90,16 +91,16 @@ module _ (order : List Event) (member number : ℕ) (item : CommitItem)
         status_by n h.stays h.within s t there (range_back n s t there h.can) t.status refl
         (touching t there)
 
-    killed_one : (n : ModelNode) → Way askers n → (s : ℕ) → Touching n s
-        → Way askers (kill_session number n s)
+    killed_one : (n : ModelNode) → Way former askers n → (s : ℕ) → Touching n s
+        → Way former askers (kill_session number n s)
     killed_one n h s touching =
         let m = kill_session number n s in
         let row : Reaches order (Unit {0}) true n 0 m =
         session_moves order (Unit {0}) number n s (get n.live s) refl (λ _ _. h.can) in
         let only = session_only number n s (get n.live s) in
         record {
-          stays = (still_holds order member (Unit {0}) tt None n m row h.stays tt).0;
-          waits = still_waits order member (Unit {0}) tt n m row h.stays askers h.waits
+          stays = (still_holds former order member (Unit {0}) tt None n m row h.stays tt).0;
+          waits = still_waits former order member (Unit {0}) tt n m row h.stays askers h.waits
               (session_tells n h s (get n.live s) refl touching);
           can = still_back n m (reach_grows order (Unit {0}) true n 0 m row)
               (ap (λ (x : ModelNode). x.at.committed) only) h.can;
@@ -107,9 +108,9 @@ module _ (order : List Event) (member number : ℕ) (item : CommitItem)
               (sym (ap (λ (x : ModelNode). x.at.certified) only)) h.within;
         }
 
-    killed_all : (victims : List ℕ) (n : ModelNode) → Way askers n
+    killed_all : (victims : List ℕ) (n : ModelNode) → Way former askers n
         → ((s : ℕ) → In s victims → Touching n s)
-        → Way askers (fold (kill_session number) n victims)
+        → Way former askers (fold (kill_session number) n victims)
     killed_all [] n h touching = h
     killed_all (v ∷ victims) n h touching =
         killed_all victims (kill_session number n v) (killed_one n h v (touching v (inl refl)))
@@ -117,15 +118,16 @@ module _ (order : List Event) (member number : ℕ) (item : CommitItem)
         ((kill_leaves number n v).fewer s t there locks) locks)
 
 -- ---- a unit starts
-module _ (order : List Event) (member : ℕ) (askers : FiniteMap nat_cmp Asker) (n : ModelNode)
-    (h : Stays order member n) (w : Waits order n askers) (can : CanTakeBack n) (number : ℕ) where
-  waits_over : (units : FiniteMap nat_cmp ApplyUnit) (m : ModelNode) → Waits order m askers
-      → Waits order (over units m) askers
+module _ (former : List ℕ) (order : List Event) (member : ℕ) (askers : FiniteMap nat_cmp Asker)
+    (n : ModelNode) (h : Stays order member n) (w : Waits former order n askers)
+    (can : CanTakeBack n) (number : ℕ) where
+  waits_over : (units : FiniteMap nat_cmp ApplyUnit) (m : ModelNode) → Waits former order m askers
+      → Waits former order (over units m) askers
   waits_over units m w = record { asked = w.asked; claims = w.claims }
 
   module _ (item : CommitItem)
       (passed : passed_at order n.at.committed n.at.certified number ≡ Some item) where
-    started_waits : Waits order (started n number item.keys
+    started_waits : Waits former order (started n number item.keys
         (touching_sessions (locks_of n.live n.units) item.keys)).1 askers
     started_waits =
         let f = h.follows.facts in
@@ -133,28 +135,28 @@ module _ (order : List Event) (member : ℕ) (askers : FiniteMap nat_cmp Asker) 
         (within_order order n f) passed in
         let victims = touching_sessions (locks_of n.live n.units) item.keys in
         let u : ApplyUnit = record { stage = Started; keys = item.keys } in
-        let killed = killed_all order member number item p.is_commit askers victims n
+        let killed = killed_all order member number item p.is_commit former askers victims n
         (record { stays = h; waits = w; can = can; within = p.within })
         (λ s i t there locks.
         let way = touched_from n.live n.units item.keys s i in
         let same : way.trx ≡ t = same_Some way.trx t (sym way.is ∙ there) in
         subst (λ (x : Live). touches item.keys x.keys ≡ true) same way.touches) in
-        subst (λ m. Waits order m askers)
+        subst (λ m. Waits former order m askers)
         (sym (kills_over number (insert n.units number u) victims n))
         (waits_over (insert n.units number u) (fold (kill_session number) n victims) killed.waits)
 
-    after_waits : (o : Option ℕ) → Waits order (start_after n number item.keys o).1 askers
+    after_waits : (o : Option ℕ) → Waits former order (start_after n number item.keys o).1 askers
     after_waits (Some earlier) = w
     after_waits None = started_waits
 
-  chosen : (b : Bool) (x y : Answer × ModelNode) → Waits order x.1 askers
-      → Waits order y.1 askers → Waits order (cond b x y).1 askers
+  chosen : (b : Bool) (x y : Answer × ModelNode) → Waits former order x.1 askers
+      → Waits former order y.1 askers → Waits former order (cond b x y).1 askers
   chosen true x y one other = one
   chosen false x y one other = other
 
   unit_waits : (o : Option CommitItem)
       → passed_at order n.at.committed n.at.certified number ≡ o
-      → Waits order (start_unit order n number o).1 askers
+      → Waits former order (start_unit order n number o).1 askers
   unit_waits None passed = w
   unit_waits (Some item) passed =
       chosen (is_some (get n.units number)) (answer.NoUnit number, n) _ w
@@ -162,6 +164,6 @@ module _ (order : List Event) (member : ℕ) (askers : FiniteMap nat_cmp Asker) 
       (after_waits item passed (greatest
       (touching_before (ahead order n.at.committed n.at.certified) number item.keys))))
 
-  pub start_waits : Waits order (start_step order n number).1 askers
+  pub start_waits : Waits former order (start_step order n number).1 askers
   unfolding start_step
   start_waits = unit_waits (passed_at order n.at.committed n.at.certified number) refl

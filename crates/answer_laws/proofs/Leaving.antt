@@ -25,6 +25,7 @@ use Rattle.answer_laws.specs.Answers.{Asker, asker_of}
 use Rattle.answer_laws.specs.Counting.{is_of, is_end_of, count_ordered, count_waiting, count_sent}
 use Rattle.answer_laws.proofs.Pasts.{Pasts, idle_insert}
 use Rattle.answer_laws.proofs.Claims.{Shut, IsBarred, Unended, Failed, Defeats, Claim}
+use Rattle.answer_laws.proofs.Former.{Claimed, Own, Old}
 use Rattle.answer_laws.proofs.Telling.{Holds, Waits}
 
 -- what the session of a transaction is told
@@ -160,9 +161,16 @@ module _ (order : List Event) (n : ModelNode) (live : FiniteMap nat_cmp Live)
   claim_left a reply.Disconnected h = barred_left a.trx h
   claim_left a _ h = tt
 
-  holds_left : (o : Option (Asker × Reply)) → Holds order n o → Holds order after o
-  holds_left None h = tt
-  holds_left (Some x) h = claim_left x.0 x.1 h
+  -- former members' claims are of what is committed alone
+  claimed_left : (former : List ℕ) (a : Asker) (r : Reply) → Claimed former order n a r
+      → Claimed former order after a r
+  claimed_left former a r (Own h) = Own (claim_left a r h)
+  claimed_left former a r (Old h) = Old h
+
+  holds_left : (former : List ℕ) (o : Option (Asker × Reply)) → Holds former order n o
+      → Holds former order after o
+  holds_left former None h = tt
+  holds_left former (Some x) h = claimed_left former x.0 x.1 h
 
   -- of a transaction that is told DISCONNECTED no commit was sent, and none will be
   module _ (f : Facts order n) (h : Pasts order n) where
@@ -182,20 +190,20 @@ module _ (order : List Event) (n : ModelNode) (live : FiniteMap nat_cmp Live)
     })
     told_claims s t there none _ Unclear = tt
 
-    waits_left : (askers : FiniteMap nat_cmp Asker) → Waits order n askers
-        → Waits order after askers
-    waits_left askers w = record {
+    waits_left : (former : List ℕ) (askers : FiniteMap nat_cmp Asker)
+        → Waits former order n askers → Waits former order after askers
+    waits_left former askers w = record {
       asked = λ s t there. w.asked s t (e.fewer s t there);
       claims = λ s r there. by s r (e.idle s r there) (e.told s r there);
     }
       where
         by : (s : ℕ) (r : Reply) → get live s ≡ None
             → (get n.waiting s ≡ Some r) ⊎ ((t : Live) × (get n.live s ≡ Some t) × ToldOf t r)
-            → (a : Asker) × (get askers s ≡ Some a) × Claim order after a r
+            → (a : Asker) × (get askers s ≡ Some a) × Claimed former order after a r
         by s r none (inl before) =
-            let c = w.claims s r before in (c.0, c.1, claim_left c.0 r c.2)
+            let c = w.claims s r before in (c.0, c.1, claimed_left former c.0 r c.2)
         by s r none (inr new) =
-            (asker_of new.0, w.asked s new.0 new.1, told_claims s new.0 new.1 none r new.2)
+            (asker_of new.0, w.asked s new.0 new.1, Own (told_claims s new.0 new.1 none r new.2))
 
 -- ---- the node that left
 module _ (order : List Event) (n : ModelNode) (h : Pasts order n) where
@@ -208,15 +216,17 @@ module _ (order : List Event) (n : ModelNode) (h : Pasts order n) where
       subst (λ m. Pasts order (departed m)) (sym x.only)
       (past_left order n (sessions_left n).live (sessions_left n).waiting x.ended h)
 
-  pub left_holds : (o : Option (Asker × Reply)) → Holds order n o → Holds order (left_node n) o
+  pub left_holds : (former : List ℕ) (o : Option (Asker × Reply)) → Holds former order n o
+      → Holds former order (left_node n) o
   unfolding left_node
-  left_holds o held =
-      subst (λ m. Holds order (departed m) o) (sym x.only)
-      (holds_left order n (sessions_left n).live (sessions_left n).waiting x.ended o held)
+  left_holds former o held =
+      subst (λ m. Holds former order (departed m) o) (sym x.only)
+      (holds_left order n (sessions_left n).live (sessions_left n).waiting x.ended former o held)
 
-  pub left_waits : Facts order n → (askers : FiniteMap nat_cmp Asker) → Waits order n askers
-      → Waits order (left_node n) askers
+  pub left_waits : Facts order n → (former : List ℕ) (askers : FiniteMap nat_cmp Asker)
+      → Waits former order n askers → Waits former order (left_node n) askers
   unfolding left_node
-  left_waits f askers w =
-      subst (λ m. Waits order (departed m) askers) (sym x.only)
-      (waits_left order n (sessions_left n).live (sessions_left n).waiting x.ended f h askers w)
+  left_waits f former askers w =
+      subst (λ m. Waits former order (departed m) askers) (sym x.only)
+      (waits_left order n (sessions_left n).live (sessions_left n).waiting x.ended f h former
+      askers w)

@@ -5,6 +5,7 @@ pub mod PastsMoved
 pub mod Claims
 pub mod Ending
 pub mod Grown
+pub mod Former
 pub mod Telling
 pub mod Causes
 pub mod Prevailing
@@ -13,8 +14,10 @@ pub mod NodeSteps
 pub mod Kills
 pub mod Drains
 pub mod Leaving
+pub mod Joining
 pub mod Asking
 pub mod ClientSteps
+pub mod Holding
 pub mod RightAnswers
 pub mod Answering
 pub mod RunAnswers

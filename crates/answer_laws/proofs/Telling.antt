@@ -15,6 +15,7 @@ use Rattle.answer_laws.specs.Answers.{Asker, asker_of}
 use Rattle.answer_laws.proofs.Pasts.{Pasts}
 use Rattle.answer_laws.proofs.PastsMoved.{past_moved}
 use Rattle.answer_laws.proofs.Claims.{Claim, claim_moved}
+use Rattle.answer_laws.proofs.Former.{Claimed, Own, Old, before_up}
 
 -- what holds of the node of a member
 pub record Stays (order : List Event) (member : ℕ) (n : ModelNode) : Type 0 where
@@ -28,23 +29,27 @@ committed_grows order given n k m (Commits s t may there is) = omega arith
 committed_grows order given n k m _ = omega arith
 
 -- what a claim, or no claim, is
-abbrev pub Holds : List Event → ModelNode → Option (Asker × Reply) → Type 0
-Holds order n None = Unit {0}
-Holds order n (Some claim) = Claim order n claim.0 claim.1
+abbrev pub Holds : List ℕ → List Event → ModelNode → Option (Asker × Reply) → Type 0
+Holds former order n None = Unit {0}
+Holds former order n (Some claim) = Claimed former order n claim.0 claim.1
 
-module _ (order : List Event) (member : ℕ) (given : Type 0) (g : given)
+module _ (former : List ℕ) (order : List Event) (member : ℕ) (given : Type 0) (g : given)
     (claim : Option (Asker × Reply)) where
   record Both (n : ModelNode) : Type 0 where
     stays : Stays order member n
-    claimed : Holds order n claim
+    claimed : Holds former order n claim
 
   holds_moved : (n : ModelNode) (k : Kind) (m : ModelNode) → May true k
       → Move order given n k m → Follows order member n → (o : Option (Asker × Reply))
-      → Holds order n o → Holds order m o
+      → Holds former order n o → Holds former order m o
   holds_moved n k m may move f None h = tt
-  holds_moved n k m may move f (Some x) h =
-      claim_moved order n f.facts given g k m may move
-      (move_grows order given n k m move).member (committed_grows order given n k m move) x.0 x.1 h
+  holds_moved n k m may move f (Some x) (Own h) =
+      Own (claim_moved order n f.facts given g k m may move
+      (move_grows order given n k m move).member (committed_grows order given n k m move) x.0 x.1
+      h)
+  holds_moved n k m may move f (Some x) (Old h) =
+      Old (before_up former order x.0 x.1 n.at.committed m.at.committed
+      (committed_grows order given n k m move) h)
 
   both_moved : (n : ModelNode) (k : Kind) (m : ModelNode)
       → (k ≡ Pays → n.at.view ≤ n.at.committed) → May true k → Move order given n k m
@@ -93,24 +98,24 @@ module _ (order : List Event) (member : ℕ) (given : Type 0) (g : given)
       )
 
   pub still_holds : (n m : ModelNode) → Reaches order given true n 0 m → Stays order member n
-      → Holds order n claim → Stays order member m × Holds order m claim
+      → Holds former order n claim → Stays order member m × Holds former order m claim
   still_holds n m row stays h =
       let both = still_both n m row (record { stays = stays; claimed = h }) in
       (both.stays, both.claimed)
 
   pub paid_holds : (n : ModelNode) (k : ℕ) (m : ModelNode) → Reaches order given true n k m
-      → n.at.view ≤ n.at.committed → Stays order member n → Holds order n claim
-      → Stays order member m × Holds order m claim
+      → n.at.view ≤ n.at.committed → Stays order member n → Holds former order n claim
+      → Stays order member m × Holds former order m claim
   paid_holds n k m row synced stays h =
       let both = (paid_both n k m row synced (record { stays = stays; claimed = h })).0 in
       (both.stays, both.claimed)
 
 -- ---- who asks, and what waits
-pub record Waits (order : List Event) (n : ModelNode) (askers : FiniteMap nat_cmp Asker)
-    : Type 0 where
+pub record Waits (former : List ℕ) (order : List Event) (n : ModelNode)
+    (askers : FiniteMap nat_cmp Asker) : Type 0 where
   pub asked : (s : ℕ) (t : Live) → get n.live s ≡ Some t → get askers s ≡ Some (asker_of t)
   pub claims : (s : ℕ) (r : Reply) → get n.waiting s ≡ Some r
-      → (a : Asker) × (get askers s ≡ Some a) × Claim order n a r
+      → (a : Asker) × (get askers s ≡ Some a) × Claimed former order n a r
 
 -- a step that changes no keys and changes of a transaction, and each new answer claims what holds
 pub record Tells (order : List Event) (n m : ModelNode) : Type 0 where
@@ -166,19 +171,20 @@ module _ (order : List Event) (n m : ModelNode) where
       by q x (Elsewhere differs at) = inl at
 
 -- the answers that wait after it are right
-module _ (order : List Event) (member : ℕ) (given : Type 0) (g : given) (n m : ModelNode)
-    (row : Reaches order given true n 0 m) (stays : Stays order member n)
-    (askers : FiniteMap nat_cmp Asker) (w : Waits order n askers) (tells : Tells order n m) where
+module _ (former : List ℕ) (order : List Event) (member : ℕ) (given : Type 0) (g : given)
+    (n m : ModelNode) (row : Reaches order given true n 0 m) (stays : Stays order member n)
+    (askers : FiniteMap nat_cmp Asker) (w : Waits former order n askers)
+    (tells : Tells order n m) where
   carried : (s : ℕ) (r : Reply)
       → (get n.waiting s ≡ Some r)
       ⊎ ((t : Live) × (get n.live s ≡ Some t) × Claim order m (asker_of t) r)
-      → (a : Asker) × (get askers s ≡ Some a) × Claim order m a r
+      → (a : Asker) × (get askers s ≡ Some a) × Claimed former order m a r
   carried s r (inl before) =
       let c = w.claims s r before in
-      (c.0, c.1, (still_holds order member given g (Some (c.0, r)) n m row stays c.2).1)
-  carried s r (inr new) = (asker_of new.0, w.asked s new.0 new.1, new.2)
+      (c.0, c.1, (still_holds former order member given g (Some (c.0, r)) n m row stays c.2).1)
+  carried s r (inr new) = (asker_of new.0, w.asked s new.0 new.1, Own new.2)
 
-  pub still_waits : Waits order m askers
+  pub still_waits : Waits former order m askers
   still_waits = record {
     asked = λ s u there.
         let was = tells.live s u there in w.asked s was.0 was.1 ∙ ap Some was.2;

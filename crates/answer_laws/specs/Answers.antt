@@ -1,5 +1,5 @@
 -- when what the sessions of a node were told along its course is right
-use Rattle.std.specs.Prelude.{◌≡◌, ◌≤◌, ◌<◌, ◌^◌, ◌-◌, ◌==◌, ℕ, zero, suc, List, [], ◌∷◌, ◌++◌, length, slice_get, Option, Some, None, is_some, Bool, true, false}
+use Rattle.std.specs.Prelude.{◌≡◌, ◌≤◌, ◌<◌, ◌^◌, ◌+◌, ◌-◌, ◌==◌, ℕ, zero, suc, List, [], ◌∷◌, ◌++◌, length, slice_get, Option, Some, None, is_some, Bool, true, false}
 use Rattle.std.specs.List.{AllByRecursion}
 use Rattle.std.specs.Ordering.{nat_cmp}
 use Rattle.finite_map.specs.FiniteMap.{FiniteMap, empty, get, insert}
@@ -27,6 +27,7 @@ use Rattle.node_meaning.specs.Cluster.{ModelCluster, start_cluster, cluster_step
 use Rattle.node_meaning.specs.Facts.{commit_at}
 use Rattle.node_meaning.specs.Units.{ops_at}
 use Rattle.node_laws.specs.Fits.{ActFits}
+use Rattle.course_laws.specs.Laws.{joins}
 use Rattle.course_laws.specs.Courses.{Course, Happens, Does, next, course, AllFit, start_course}
 
 -- ---- who asks
@@ -52,13 +53,18 @@ pub record Told : Type 0 where
   pub waited : Bool
   pub answer : Reply
 
-abbrev pub told_by : Course → FiniteMap nat_cmp Asker → Happens → List Told
-told_by c askers (Does (act.Client session call)) = record {
+-- what a step of a node tells its sessions
+abbrev pub told_to : List Event → ModelNode → FiniteMap nat_cmp Asker → Act → List Told
+told_to order n askers (act.Client session call) = record {
   asker = get askers session;
-  committed = c.node.at.committed;
-  waited = is_some (get c.node.waiting session);
-  answer = (client c.order c.node session call).0;
+  committed = n.at.committed;
+  waited = is_some (get n.waiting session);
+  answer = (client order n session call).0;
 } ∷ []
+told_to order n askers other = []
+
+abbrev pub told_by : Course → FiniteMap nat_cmp Asker → Happens → List Told
+told_by c askers (Does a) = told_to c.order c.node askers a
 told_by c askers other = []
 
 -- all that the sessions of a node were told along its course
@@ -147,15 +153,15 @@ AreRight order answers =
     AllByRecursion (λ (t : Told). IsRightTo order t.committed t.asker t.waited t.answer) answers
 
 -- over the order at the end of every course from a start all answers are right, while numbers are
--- in range
+-- in range; the node may leave and join again as new members
 abbrev pub AnswersAreRight : Type 0
 AnswersAreRight =
-    (nodes member : ℕ) (id : List ℕ) (happens : List Happens)
+    (nodes gcache member : ℕ) (id : List ℕ) (happens : List Happens)
     → 1 ≤ member → member ≤ nodes → member < 2 ^ 32
-    → AllFit (start_course nodes id member) happens → length happens < 2 ^ 63
-    → length (course (start_course nodes id member) happens).order ≤ 2 ^ 63
-    → AreRight (course (start_course nodes id member) happens).order
-    (told (start_course nodes id member) empty happens)
+    → AllFit (start_course nodes gcache id member) happens → length happens < 2 ^ 63
+    → length (course (start_course nodes gcache id member) happens).order ≤ 2 ^ 63
+    → AreRight (course (start_course nodes gcache id member) happens).order
+    (told (start_course nodes gcache id member) empty happens)
 
 -- ---- runs of a cluster
 -- what a step tells the sessions of a node, where it is that node's own
@@ -163,8 +169,7 @@ abbrev pub told_of : List Event → Option ModelNode → FiniteMap nat_cmp Asker
     → List Told
 told_of order None askers own a = []
 told_of order (Some n) askers false a = []
-told_of order (Some n) askers true a =
-    told_by (record { order = order; node = n }) askers (Does a)
+told_of order (Some n) askers true a = told_to order n askers a
 
 abbrev pub asked_of : Option ModelNode → FiniteMap nat_cmp Asker → FiniteMap nat_cmp Asker
 asked_of None askers = askers
@@ -178,11 +183,12 @@ told_run c i askers (step ∷ steps) =
     ++ told_run (cluster_step c step).1 i
     (asked_of (slice_get (cluster_step c step).1.nodes i) askers) steps
 
--- over the order at the end of every run of a cluster all answers of its nodes are right
+-- over the order at the end of every run of a cluster all answers of its nodes are right, while
+-- members are in range
 abbrev pub RunsAnswerRight : Type 0
 RunsAnswerRight =
-    (nodes : ℕ) (id : List ℕ) (steps : List Step)
-    → nodes < 2 ^ 32 → length steps < 2 ^ 63
+    (nodes gcache : ℕ) (id : List ℕ) (steps : List Step)
+    → nodes + joins steps < 2 ^ 32 → length steps < 2 ^ 63
     → AllByRecursion (λ (step : Step). ActFits step.act) steps → (i : ℕ) → i < nodes
-    → AreRight (run steps (start_cluster nodes id)).1.order
-    (told_run (start_cluster nodes id) i empty steps)
+    → AreRight (run steps (start_cluster nodes gcache id)).1.order
+    (told_run (start_cluster nodes gcache id) i empty steps)

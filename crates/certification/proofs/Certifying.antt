@@ -1,5 +1,5 @@
 -- What is certified stays so: after the next event, after the next commit, and over an order that goes on.
-use Rattle.std.proofs.Common.{◌≡◌, ℕ, ◌+◌, ◌≤◌, List, [], ◌∷◌, ◌++◌, Some, ap, sym, subst, ◌∙◌, arith, length-append, true≢false}
+use Rattle.std.proofs.Common.{◌≡◌, ℕ, ◌+◌, ◌-◌, ◌≤◌, List, [], ◌∷◌, ◌++◌, length, Some, ap, sym, subst, ◌∙◌, arith, length-append, true≢false}
 use Rattle.std.specs.Prelude.{slice_get, drop, is_some}
 use Rattle.std.specs.Ordering.{nat_cmp}
 use Rattle.std.proofs.lemmas.Option.{slice_get_within}
@@ -8,13 +8,23 @@ use Rattle.wsrep_base.specs.declared.verdict.Judged.{Judged}
 use Rattle.row_model.specs.declared.ops.Op.{Op}
 use Rattle.order_event.specs.declared.event.Event.{Event}
 use Rattle.cert_meaning.specs.State.{FoldState, no_events}
+use Rattle.cert_meaning.specs.Parts.{trim}
 use Rattle.cert_meaning.specs.Fold.{judged, after, ops_of, state_at}
+use Rattle.cert_meaning.proofs.FloorLaws.{settled_at, floor_rises}
 use Rattle.cert_meaning.proofs.FoldLaws.{state_at-next, state_at-append, number-at}
 use Rattle.node_parts.specs.Passed.{AllBefore}
-use Rattle.certification.specs.Certifies.{ModelCertification, Certifies, IsNext, KeepsChanges, needed, with_changes}
-use Rattle.certification.proofs.Needed.{judged-needed, ops-needed, after-needed}
+use Rattle.certification.specs.Certifies.{ModelCertification, Certifies, IsNext, KeepsChanges, commits_above, judged_after, needed, with_changes}
+use Rattle.certification.proofs.Needed.{above_both, judged-needed, ops-needed, after-needed, trim-needed}
 use Rattle.certification.proofs.Verdicts.{verdicts_more, verdicts_less, verdicts_append}
 use Rattle.certification.proofs.Changes.{changes-certified, changes-committed, changes-append}
+
+-- where all is committed no changes are kept
+none_kept : (order : List Event) (number : ℕ) (changes : FiniteMap nat_cmp (List Op)) → changes ≡ empty
+    → KeepsChanges order number number changes
+none_kept order number changes none = record {
+  kept = λ at above within is. absurd (omega (arith, above, within));
+  only = λ at has. absurd (true≢false (sym has ∙ ap (λ m. is_some (get m at)) none ∙ ap is_some (get-empty nat_cmp at)));
+}
 
 -- before the first event
 pub certifies_none : (order : List Event) (c : ModelCertification) → c.dropped ≡ 0 → c.state ≡ no_events → c.changes ≡ empty
@@ -25,17 +35,39 @@ certifies_none order c dropped state changes verdicts = record {
   has_ahead = omega (arith, dropped);
   has_tested = omega (arith, dropped);
   state = ap (needed c.dropped) state;
-  changes = record {
-    kept = λ number above within is. absurd (omega (arith, above, within));
-    only = λ number has. absurd (true≢false (sym has ∙ ap (λ m. is_some (get m number)) changes ∙ ap is_some (get-empty nat_cmp number)));
-  };
+  changes = none_kept order 0 c.changes changes;
   verdicts = verdicts;
 }
+
+-- from a trimmed state, up to which all is committed
+pub certifies_installed : (order : List Event) (number : ℕ) (c : ModelCertification) → number ≤ length order
+    → c.state ≡ trim (state_at order number) → c.dropped ≡ c.state.floor → c.changes ≡ empty → c.verdicts ≡ []
+    → Certifies order number number c
+certifies_installed order number c within state floor changes verdicts =
+    let s = state_at order number in
+    let dropped : c.dropped ≡ s.floor = floor ∙ ap (λ (q : FoldState). q.floor) state in
+    let settled = settled_at order number in
+    let own : s.number ≡ number = number-at order number within in
+    record {
+      within = within;
+      has_ahead = let low = settled.floor in omega (arith, dropped, low, own);
+      has_tested = omega (arith, dropped);
+      state = ap (needed c.dropped) state
+          ∙ ap (λ low. record s { commits = commits_above low (commits_above s.floor s.commits) }) dropped
+          ∙ ap (λ commits. record s { commits = commits }) (above_both s.floor s.floor (omega arith) s.commits)
+          ∙ ap (λ low. needed low s) (sym dropped);
+      changes = none_kept order number c.changes changes;
+      verdicts = verdicts ∙ ap (judged_after order number) (let none : 0 ≡ number - number = omega arith in none);
+    }
 
 module _ (order : List Event) (committed certified : ℕ) (c : ModelCertification) (is : Certifies order committed certified c) where
   -- its number is what is certified
   pub number-is : c.state.number ≡ certified
   number-is = ap (λ (s : FoldState). s.number) is.state ∙ number-at order certified is.within
+
+  -- trimmed its state is that of the order
+  pub trimmed-is : trim c.state ≡ trim (state_at order certified)
+  trimmed-is = trim-needed c.dropped c.state (state_at order certified) is.state is.has_tested
 
   -- the changes that are kept are of earlier events
   pub all_before : AllBefore c.changes (c.state.number + 1)
@@ -47,7 +79,7 @@ module _ (order : List Event) (committed certified : ℕ) (c : ModelCertificatio
   -- the next event
   module _ (e : Event) (next : ModelCertification) (became : Judged) (changes : List Op) (fits : committed ≤ certified)
       (there : slice_get order certified ≡ Some e) (judged_is : became ≡ judged c.state e) (changes_is : changes ≡ ops_of c.state e)
-      (dropped : next.dropped ≡ c.dropped) (floor : c.dropped ≤ (state_at order (certified + 1)).floor)
+      (dropped : next.dropped ≡ c.dropped)
       (state : next.state ≡ after c.state e) (kept : next.changes ≡ with_changes became c.changes next.state.number changes)
       (number : next.state.number ≡ c.state.number + 1) (verdicts : next.verdicts ≡ c.verdicts ++ became ∷ []) where
     abbrev s : FoldState
@@ -63,7 +95,10 @@ module _ (order : List Event) (committed certified : ℕ) (c : ModelCertificatio
     certifies = record {
       within = let more = slice_get_within order certified e there in omega (arith, more);
       has_ahead = let few = is.has_ahead in omega (arith, dropped, few);
-      has_tested = omega (arith, dropped, floor);
+      has_tested =
+          let rises = floor_rises order certified (certified + 1) (omega arith) in
+          let tested = is.has_tested in
+          omega (arith, dropped, tested, rises);
       state = ap (λ low. needed low next.state) dropped ∙ ap (needed c.dropped) state
           ∙ after-needed c.dropped c.state s is.state is.has_tested e
           ∙ ap (needed c.dropped) (sym (state_at-next order certified e there))

@@ -7,3 +7,4 @@ pub mod Status
 pub mod Pairs
 pub mod Counted
 pub mod Lookup
+pub mod Trimmed

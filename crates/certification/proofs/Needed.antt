@@ -4,7 +4,7 @@ use Rattle.std.proofs.Common.{◌≡◌, ℕ, ◌+◌, ◌≤◌, Bool, true, fa
 use Rattle.std.specs.Prelude.{◌==◌, nat_lt, nat_le, not, map, unwrap_or}
 use Rattle.std.specs.List.{filter}
 use Rattle.std.specs.Ordering.{nat_cmp}
-use Rattle.finite_map.specs.FiniteMap.{FiniteMap, get, insert, empty}
+use Rattle.finite_map.specs.FiniteMap.{FiniteMap, get, insert}
 use Rattle.wsrep_base.specs.Trx.{greatest}
 use Rattle.wsrep_base.specs.declared.verdict.Verdict.TheVariants.{Pass, Stranger, Repeat, Future, Stale, Broken}
 use Rattle.key_sets.specs.Keys.{Keys, conflicts}
@@ -15,9 +15,10 @@ use Rattle.write_set.specs.Reading.{decoded}
 use Rattle.cert_meaning.specs.declared.items.CommitItem.{CommitItem}
 use Rattle.cert_meaning.specs.declared.members.Standing.{Standing}
 use Rattle.cert_meaning.specs.State.{FoldState, is_member, serial_of}
+use Rattle.cert_meaning.specs.Parts.{trim}
 use Rattle.cert_meaning.specs.Search.{is_related}
 use Rattle.cert_meaning.specs.Verdict.{trx_of, is_rollback, is_broken, conflict_of, held_by, conflict_or_held, verdict}
-use Rattle.cert_meaning.specs.Fold.{Effect, Same, Closes, Adds, Commits, effect_of, judged_as, judged_write, judged, closed, continued, commit_by, affected, written, viewed, reported, changed_by, settled, after, ops_by, ops_written, committed_ops, ops_of}
+use Rattle.cert_meaning.specs.Fold.{Effect, Same, Closes, Adds, Commits, effect_of, judged_as, judged_write, judged, closed, continued, committed, commit_by, affected, written, viewed, reported, changed_by, settled, after, ops_by, ops_written, committed_ops, ops_of}
 use Rattle.certification.specs.Certifies.{commits_above, needed}
 
 -- ---- lists
@@ -75,7 +76,7 @@ module _ (low : ℕ) (s : FoldState) where
         (λ c none. related_not conflicts seen keys c (omega (arith, fits, tested)) none) s.commits)
 
     -- a write set that is not stale meets the same commits
-    verdict_same : (member : ℕ) (w : WriteSet) → verdict t member w ≡ verdict s member w
+    pub verdict_same : (member : ℕ) (w : WriteSet) → verdict t member w ≡ verdict s member w
     unfolding verdict is_broken held_by
     verdict_same member w =
         ap (λ v. cond (not (is_member s member) || not (w.member == member)) Stranger
@@ -120,49 +121,55 @@ module _ (low : ℕ) (s : FoldState) where
     ops_same (Report member number) = refl
 
     affected_same : (w : WriteSet) (effect : Effect) → needed low (affected t w effect) ≡ needed low (affected s w effect)
-    affected_same w Same = ap (λ cs. record s { rows = empty; commits = cs }) (twice low s.commits)
-    affected_same w Closes = ap (λ cs. record (closed s w) { rows = empty; commits = cs }) (twice low s.commits)
-    affected_same w Adds = ap (λ cs. record (continued s w) { rows = empty; commits = cs }) (twice low s.commits)
+    affected_same w Same = ap (λ cs. record s { commits = cs }) (twice low s.commits)
+    affected_same w Closes = ap (λ cs. record (closed s w) { commits = cs }) (twice low s.commits)
+    affected_same w Adds = ap (λ cs. record (continued s w) { commits = cs }) (twice low s.commits)
     affected_same w Commits =
-        ap (λ cs. record (closed s w) { rows = empty; commits = cs })
+        ap (λ cs. record (committed s w) { commits = cs })
         (filter_more (λ (c : CommitItem). nat_lt low c.number) (commit_by s w) s.commits)
 
     written_same : (member : ℕ) (set : Option WriteSet) → needed low (written t member set) ≡ needed low (written s member set)
-    written_same member None = ap (λ cs. record s { rows = empty; commits = cs }) (twice low s.commits)
+    written_same member None = ap (λ cs. record s { commits = cs }) (twice low s.commits)
     written_same member (Some w) =
         ap (λ j. needed low (affected t w (effect_of j))) (write_same member (Some w))
         ∙ affected_same w (effect_of (judged_write s member (Some w)))
 
     reported_same : (member number : ℕ) (standing : Option Standing)
         → needed low (reported t member number standing) ≡ needed low (reported s member number standing)
-    reported_same member number None = ap (λ cs. record s { rows = empty; commits = cs }) (twice low s.commits)
+    reported_same member number None = ap (λ cs. record s { commits = cs }) (twice low s.commits)
     reported_same member number (Some standing) =
         either (nat_le standing.report number && nat_lt number (s.number + 1)) (insert s.members member (record standing { report = number }))
       where
         either : (b : Bool) (members : FiniteMap nat_cmp Standing)
             → needed low (cond b (record t { members = members }) t) ≡ needed low (cond b (record s { members = members }) s)
-        either true members = ap (λ cs. record s { members = members; rows = empty; commits = cs }) (twice low s.commits)
-        either false members = ap (λ cs. record s { rows = empty; commits = cs }) (twice low s.commits)
+        either true members = ap (λ cs. record s { members = members; commits = cs }) (twice low s.commits)
+        either false members = ap (λ cs. record s { commits = cs }) (twice low s.commits)
 
     changed_same : (e : Event) → needed low (changed_by t e) ≡ needed low (changed_by s e)
     changed_same (Write member body) = written_same member (decoded body)
-    changed_same (View version members) = ap (λ cs. record (viewed s version members) { rows = empty; commits = cs }) (twice low s.commits)
+    changed_same (View version members) = ap (λ cs. record (viewed s version members) { commits = cs }) (twice low s.commits)
     changed_same (Report member number) = reported_same member number (get s.members member)
 
-    after_same : (e : Event) → needed low (after t e) ≡ needed low (after s e)
+    pub after_same : (e : Event) → needed low (after t e) ≡ needed low (after s e)
     unfolding after
     after_same e = ap settled (changed_same e)
 
+    trim_same : trim t ≡ trim s
+    trim_same = ap (λ cs. record s { commits = cs }) (above_both low s.floor fits s.commits)
+
 -- ---- two states of which the same is needed
-module _ (low : ℕ) (s r : FoldState) (same : needed low s ≡ needed low r) (fits : low ≤ r.floor) (e : Event) where
+module _ (low : ℕ) (s r : FoldState) (same : needed low s ≡ needed low r) (fits : low ≤ r.floor) where
   fits_too : low ≤ s.floor
   fits_too = let floors = ap (λ (q : FoldState). q.floor) same in omega (arith, fits, floors)
 
-  pub judged-needed : judged s e ≡ judged r e
-  judged-needed = sym (judged_same low s fits_too e) ∙ ap (λ q. judged q e) same ∙ judged_same low r fits e
+  pub trim-needed : trim s ≡ trim r
+  trim-needed = sym (trim_same low s fits_too) ∙ ap trim same ∙ trim_same low r fits
 
-  pub ops-needed : ops_of s e ≡ ops_of r e
-  ops-needed = sym (ops_same low s fits_too e) ∙ ap (λ q. ops_of q e) same ∙ ops_same low r fits e
+  pub judged-needed : (e : Event) → judged s e ≡ judged r e
+  judged-needed e = sym (judged_same low s fits_too e) ∙ ap (λ q. judged q e) same ∙ judged_same low r fits e
 
-  pub after-needed : needed low (after s e) ≡ needed low (after r e)
-  after-needed = sym (after_same low s fits_too e) ∙ ap (λ q. needed low (after q e)) same ∙ after_same low r fits e
+  pub ops-needed : (e : Event) → ops_of s e ≡ ops_of r e
+  ops-needed e = sym (ops_same low s fits_too e) ∙ ap (λ q. ops_of q e) same ∙ ops_same low r fits e
+
+  pub after-needed : (e : Event) → needed low (after s e) ≡ needed low (after r e)
+  after-needed e = sym (after_same low s fits_too e) ∙ ap (λ q. needed low (after q e)) same ∙ after_same low r fits e

@@ -2,7 +2,7 @@
 use Rattle.std.specs.Prelude.{◌≡◌, ◌≤◌, ◌<◌, ℕ, zero, suc, ◌+◌, ◌-◌, ◌^◌, nat_lt, List, [], ◌∷◌, length, Option, Some, is_some, IsTrue}
 use Rattle.std.specs.List.{filter}
 use Rattle.std.specs.Ordering.{nat_cmp}
-use Rattle.finite_map.specs.FiniteMap.{FiniteMap, empty, get, insert, contains_key}
+use Rattle.finite_map.specs.FiniteMap.{FiniteMap, get, insert, contains_key}
 use Rattle.wsrep_base.specs.declared.ids.TrxId.{TrxId}
 use Rattle.wsrep_base.specs.declared.verdict.Judged.{Judged}
 use Rattle.wsrep_base.specs.declared.verdict.Judged.TheVariants as became
@@ -18,8 +18,8 @@ use Rattle.node_meaning.specs.Facts.{commit_at}
 use Rattle.node_meaning.specs.Units.{ops_at, judged_at}
 
 pub record ModelCertification : Type 0 where
-  -- nobody asks for its rows, and commits up to a number may be missing
   pub state : FoldState
+  -- commits up to this number may be missing
   pub dropped : ℕ
   -- all changes of each passed commit that is not committed, by its number
   pub changes : FiniteMap nat_cmp (List Op)
@@ -30,9 +30,9 @@ pub record ModelCertification : Type 0 where
 abbrev pub commits_above : ℕ → List CommitItem → List CommitItem
 commits_above number commits = filter (λ (commit : CommitItem). nat_lt number commit.number) commits
 
--- what certification needs of a state: no rows, and of the commits those above a number
+-- what certification needs of a state: of the commits those above a number
 abbrev pub needed : ℕ → FoldState → FoldState
-needed above s = record s { rows = empty; commits = commits_above above s.commits }
+needed above s = record s { commits = commits_above above s.commits }
 
 -- the changes of each passed commit that is certified and not committed
 pub record KeepsChanges (order : List Event) (committed certified : ℕ)

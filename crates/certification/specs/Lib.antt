@@ -1,2 +1,3 @@
 pub mod Certifies
 pub mod Counting
+pub mod Laws

@@ -1,8 +1,9 @@
-ghost use Rattle.std.specs.Prelude.{◌≡◌, ◌≤◌, ◌+◌, ◌-◌, ◌^◌, ◌<◌, ℕ, min, List, Some, slice_get, IfOk, OnErr};
+ghost use Rattle.std.specs.Prelude.{◌≡◌, ◌≤◌, ◌+◌, ◌-◌, ◌^◌, ◌<◌, ℕ, min, List, length, Some, slice_get, IfOk, OnErr};
 ghost use Rattle.std.specs.Option.{option_copied};
 ghost use Rattle.order_event.specs.declared.event.Event.{Event as Ordered};
 ghost use Rattle.finite_map.specs.FiniteMap.{len};
 ghost use Rattle.cert_meaning.specs.Fold.{set_in, state_at};
+ghost use Rattle.cert_meaning.specs.Parts.{trim};
 ghost use Rattle.node_meaning.specs.Status.{index_count};
 ghost use Rattle.node_meaning.specs.Units.{judged_at};
 ghost use Rattle.node_parts.specs.Passed.{AllBefore};
@@ -33,6 +34,8 @@ pub struct Certified {
 #[derive(Drop)]
 pub struct Certification {
     state: FoldState,
+    /// Commits up to this number may be missing.
+    dropped: u64,
     /// The changes of passed commits that are not committed.
     passed: Passed,
     /// What became of the numbers that are certified and not committed, oldest first.
@@ -46,7 +49,7 @@ impl Model for Certification {
 
     ghost view = { λ c. record {
       state = c.state;
-      dropped = 0;
+      dropped = c.dropped;
       changes = c.passed.ops;
       verdicts = c.verdicts.items;
     } };
@@ -59,9 +62,32 @@ impl Certification {
     {
         Ok(Certification {
             state: FoldState::empty(alloc)?,
+            dropped: 0,
             passed: Passed::new(alloc),
             verdicts: VecDeque::new(alloc),
         })
+    }
+
+    /// From a trimmed state at a number, up to which all is committed. It takes no memory.
+    pub fn installed(alloc: Global, state: FoldState) -> Certification
+        ensures { (order : List Ordered) (number : ℕ) → number ≤ length order
+            → state ≡ trim (state_at order number) → Certifies order number number result }
+    {
+        Certification {
+            dropped: state.floor(),
+            state,
+            passed: Passed::new(alloc),
+            verdicts: VecDeque::new(alloc),
+        }
+    }
+
+    /// The state, for a snapshot: trimmed it is that of the order.
+    pub fn state(&self) -> &FoldState
+        ensures { (order : List Ordered) (committed certified : ℕ)
+            → Certifies order committed certified self.now
+            → trim result.now ≡ trim (state_at order certified) }
+    {
+        &self.state
     }
 
     /// Certifies the next event of the order. It costs the commits above what a write set has seen.

@@ -4,5 +4,7 @@
 
 mod certification;
 mod counting;
+mod laws;
 
 pub use certification::{Certification, Certified};
+pub use laws::trimmed_states_go_on;

@@ -13,7 +13,6 @@ use Rattle.order_event.specs.declared.step.Act.TheVariants as act
 use Rattle.order_event.specs.declared.step.Answer.{Answer}
 use Rattle.order_event.specs.declared.step.Step.{Step}
 use Rattle.order_event.specs.declared.step.Answer.TheVariants as answer
-use Rattle.order_event.specs.Spelling.{HasFewMembers}
 use Rattle.group_order.specs.Causes as group_cause
 use Rattle.group_order.specs.declared.fault.GroupFault.{GroupFault}
 use Rattle.group_order.specs.declared.fault.GroupFault.TheVariants as group
@@ -33,8 +32,9 @@ use Rattle.cluster_core.specs.declared.fault.StepFault.TheVariants as fault
 use Rattle.cluster_core.specs.Faults.{step_fault}
 use Rattle.cluster_core.specs.Acts.{IsKept, AreKept, Goes, Acted, Failed, Left, Runs, cluster_of, nodes_of}
 use Rattle.node_laws.specs.Drains.{StoppedAt, after_acts, drain_acts_of}
-use Rattle.node_laws.proofs.ClusterLaws.{length-up_to}
-use Rattle.cluster_core.specs.Steps.{Wants, MayFail, MayFailAt, FailedBy}
+use Rattle.cluster_core.specs.Steps.{Wants, MayFail, MayFailIn, MayFailAt, FailedBy}
+use Rattle.cluster_core.specs.Orders.{EventFits, OrderIsKept}
+use Rattle.cluster_core.proofs.OrderLaws.{all_append, sent_kept, start_kept}
 use Rattle.cluster_core.proofs.SeatLaws.{seated_grow}
 
 -- ---- lists
@@ -48,15 +48,6 @@ there_after [] i x y there = absurd cc
 there_after (z ∷ zs) zero x y there = refl
 there_after (z ∷ zs) (suc i) x y there = there_after zs i x y there
 
-pub all_append : {A : Type 0} (P : A → Type 0) (xs ys : List A) → AllByRecursion P xs → AllByRecursion P ys → AllByRecursion P (xs ++ ys)
-all_append P [] ys here there = there
-all_append P (x ∷ xs) ys here there = (here.0, all_append P xs ys here.1 there)
-
-pub all_at : {A : Type 0} (P : A → Type 0) (xs : List A) (i : ℕ) (x : A) → AllByRecursion P xs → slice_get xs i ≡ Some x → P x
-all_at P [] i x all there = absurd cc
-all_at P (y ∷ ys) zero x all there = subst P (same_Some y x there) all.0
-all_at P (y ∷ ys) (suc i) x all there = all_at P ys i x all.1 there
-
 -- ---- faults
 some_waits : (queue : List Message) (m : Message) → oldest queue ≡ Some m → 0 < length queue
 some_waits [] m some = absurd cc
@@ -67,9 +58,11 @@ may_order : (order : List Event) (n : ModelNode) (e : StepFault) → 0 < length 
 may_order order n fault.Group waits = waits
 may_order order n fault.NoMemory waits = waits
 
-few_of : (member : ℕ) (m : Message) → HasFewMembers (event_of member m)
-few_of member (message.Write body) = tt
-few_of member (message.Report number) = tt
+-- a transfer alone needs another node
+pub may_in : (c : ModelCluster) (n : ModelNode) (a : Act) (e : StepFault) → MayFail c.order n a e → MayFailIn c n a e
+may_in c n (act.Transfer donor) fault.Group may = absurd may
+may_in c n (act.Transfer donor) fault.NoMemory may = absurd may
+may_in c n other e may = may
 
 -- ---- where the order stays
 pub goes_same : (before now : List Event) (new : Seat) → now ≡ before → IsKept before new → Goes before now new
@@ -87,21 +80,13 @@ module _ (a : Act) (order : List Event) (old : Seat) (kept : IsKept order old) w
     same = λ nodes i there.
         ap (λ (r : Answer × ModelNode). (r.0, cluster_of order (set_at nodes i r.1))) d.same
         ∙ sym (by_itself (cluster_of order nodes) i (plain_of old.node));
-    goes = goes_same order order new refl (record { few = kept.few; seated = d.seated });
+    goes = goes_same order order new refl (record { order_kept = kept.order_kept; seated = d.seated });
   }
 
   pub acted_does : (new : Seat) (answer : Answer) → SeatDoes (λ order n. node_step order n a) old new answer
       → ((c : ModelCluster) (i : ℕ) (n : ModelNode) → step_of c i n a ≡ with_node c i (node_step c.order n a))
       → Acted a order order old new answer
   acted_does new answer does by_itself = acted_alone new answer (does order kept.seated) by_itself
-
-  pub acted_nothing : ((c : ModelCluster) (i : ℕ) (n : ModelNode) → step_of c i n a ≡ (answer.Nothing, c)) → Acted a order order old old answer.Nothing
-  acted_nothing nothing = record {
-    same = λ nodes i there.
-        ap (λ ns. (answer.Nothing, cluster_of order ns)) (set_at_same nodes i (plain_of old.node) there)
-        ∙ sym (nothing (cluster_of order nodes) i (plain_of old.node));
-    goes = goes_same order order old refl kept;
-  }
 
   pub failed_alone : (new : Seat) → SeatUnchanged old new → Wants order (plain_of old.node) a
       → ((a ≡ a) × (order ≡ order) × (plain_of new.node ≡ plain_of old.node) → Left a order order (plain_of old.node) (plain_of new.node) a)
@@ -110,7 +95,7 @@ module _ (a : Act) (order : List Event) (old : Seat) (kept : IsKept order old) w
     next = a;
     left = left (refl, refl, u.plain);
     may = subst (λ n. Wants order n a) (sym u.plain) wants;
-    goes = goes_same order order new refl (record { few = kept.few; seated = u.seated order kept.seated });
+    goes = goes_same order order new refl (record { order_kept = kept.order_kept; seated = u.seated order kept.seated });
   }
 
   failed_by : (new : Seat) → SeatUnchanged old new → Wants order (plain_of old.node) a
@@ -163,9 +148,10 @@ some_first before now nodes i number n after m (x ∷ xs) first is counts sent =
     ∙ ap (λ k. (answer.Ordered (length before + 1), cluster_of (before ++ event_of n.at.member x ∷ []) (set_at nodes i k))) sent
 
 pub order_done : (before now : List Event) (old : Seat) (node : NodeParts) (m : Message) (number : ℕ) → oldest old.node.queue.outbox ≡ Some m
+    → EventFits (event_of old.node.at.member m)
     → now ≡ before ++ event_of old.node.at.member m ∷ [] → number ≡ length now → DoneOver before (quietly sent_out before) old.node node tt
     → IsKept before old → Acted act.Order before now old (record old { node = node }) (answer.Ordered number)
-order_done before now old node m number first is counts d kept =
+order_done before now old node m number first fits is counts d kept =
     let new : Seat = record old { node = node } in
     let sent : plain_of node ≡ sent_out (plain_of old.node) = ap (λ (r : Unit {0} × ModelNode). r.1) d.same in
     let seated : IsSeated before new = record {
@@ -180,7 +166,7 @@ order_done before now old node m number first is counts d kept =
         more = event_of old.node.at.member m ∷ [];
         grown = is;
         kept = record {
-          few = subst (AllByRecursion HasFewMembers) (sym is) (all_append HasFewMembers before (event_of old.node.at.member m ∷ []) kept.few (few_of old.node.at.member m, tt));
+          order_kept = subst OrderIsKept (sym is) (sent_kept before old.node.at.member m fits kept.order_kept);
           seated = subst (λ order. IsSeated order new) (sym is) (seated_grow before (event_of old.node.at.member m ∷ []) new seated);
         };
       };
@@ -198,7 +184,7 @@ take_acted before now old new a e is there takes kept =
       same = λ nodes i at.
           ap (λ o. (a, cluster_of o (set_at nodes i (plain_of new.node)))) is
           ∙ ap (λ (r : Answer × ModelNode). (r.0, cluster_of before (set_at nodes i r.1))) d.same;
-      goes = goes_same before now new is (record { few = kept.few; seated = d.seated });
+      goes = goes_same before now new is (record { order_kept = kept.order_kept; seated = d.seated });
     }
 
 no_choice : {A : Type 0} (b : Bool) (x : A) → x ≡ cond b x x
@@ -245,7 +231,7 @@ take_failed before now old new e is u kept may = record {
   next = act.Take;
   left = (refl, is, u.plain);
   may = subst (λ o. MayFail o (plain_of new.node) act.Take e) (sym is) (subst (λ n. MayFail before n act.Take e) (sym u.plain) may);
-  goes = goes_same before now new is (record { few = kept.few; seated = u.seated before kept.seated });
+  goes = goes_same before now new is (record { order_kept = kept.order_kept; seated = u.seated before kept.seated });
 }
 
 -- taking an event that is there may want memory
@@ -280,28 +266,24 @@ map_append f (x ∷ xs) ys = ap (λ zs. f x ∷ zs) (map_append f xs ys)
 abbrev pub AreSeated : {W : Type 0} → List Event → List (SeatOf W) → Type 0
 AreSeated order seats = AllByRecursion (λ s. IsSeated order (seen s)) seats
 
-abbrev pub SeatsTo : {W : Type 0} → List ℕ → ℕ → List (SeatOf W) → Type 0
-SeatsTo id k seats = (nodes_of seats ≡ map (start_node id) (up_to k)) × ((order : List Event) → AreSeated order seats)
+abbrev pub SeatsTo : {W : Type 0} → ℕ → List ℕ → ℕ → List (SeatOf W) → Type 0
+SeatsTo gcache id k seats = (nodes_of seats ≡ map (start_node gcache id) (up_to k)) × ((order : List Event) → AreSeated order seats)
 
-pub no_seat : {W : Type 0} (id : List ℕ) (seats : List (SeatOf W)) → seats ≡ [] → SeatsTo id 0 seats
-no_seat id seats none = subst (SeatsTo id 0) (sym none) (refl, λ order. tt)
+pub no_seat : {W : Type 0} (gcache : ℕ) (id : List ℕ) (seats : List (SeatOf W)) → seats ≡ [] → SeatsTo gcache id 0 seats
+no_seat gcache id seats none = subst (SeatsTo gcache id 0) (sym none) (refl, λ order. tt)
 
-pub next_seat : {W : Type 0} (id : List ℕ) (seats now : List (SeatOf W)) (seat : SeatOf W) (k : ℕ) → now ≡ seats ++ seat ∷ []
-    → plain_of seat.node.parts ≡ start_node id (k + 1) → ((order : List Event) → IsSeated order (seen seat)) → SeatsTo id k seats → SeatsTo id (k + 1) now
-next_seat {W} id seats now seat k is start seated so_far =
+pub next_seat : {W : Type 0} (gcache : ℕ) (id : List ℕ) (seats now : List (SeatOf W)) (seat : SeatOf W) (k : ℕ) → now ≡ seats ++ seat ∷ []
+    → plain_of seat.node.parts ≡ start_node gcache id (k + 1) → ((order : List Event) → IsSeated order (seen seat)) → SeatsTo gcache id k seats → SeatsTo gcache id (k + 1) now
+next_seat {W} gcache id seats now seat k is start seated so_far =
     let e : k + 1 ≡ suc k = omega arith in
-    subst (λ j. SeatsTo id j now) (sym e)
-    (subst (SeatsTo id (suc k)) (sym is) (
+    subst (λ j. SeatsTo gcache id j now) (sym e)
+    (subst (SeatsTo gcache id (suc k)) (sym is) (
       map_append (λ (s : SeatOf W). plain_of s.node.parts) seats (seat ∷ [])
           ∙ ap (λ ns. ns ++ plain_of seat.node.parts ∷ []) so_far.0
-          ∙ ap (λ n. map (start_node id) (up_to k) ++ n ∷ []) (start ∙ ap (start_node id) e)
-          ∙ sym (map_append (start_node id) (up_to k) (suc k ∷ [])),
+          ∙ ap (λ n. map (start_node gcache id) (up_to k) ++ n ∷ []) (start ∙ ap (start_node gcache id) e)
+          ∙ sym (map_append (start_node gcache id) (up_to k) (suc k ∷ [])),
       λ order. all_append (λ s. IsSeated order (seen s)) seats (seat ∷ []) (so_far.1 order) (seated order, tt),
     ))
-
--- the first view has few members
-pub few_at_start : (nodes : ℕ) → nodes ≤ 9 → AllByRecursion HasFewMembers (start_order nodes)
-few_at_start nodes small = (omega (arith, small, length-up_to nodes), tt)
 
 -- ---- no step at all
 pub runs_none : (order : List Event) (n : ModelNode) → Runs [] order order n n
@@ -331,7 +313,7 @@ all_set P (y ∷ ys) (suc i) x all it = (all.0, all_set P ys i x all.1 it)
 
 pub kept_set : {W : Type 0} (before now : List Event) (seats : List (SeatOf W)) (i : ℕ) (seat : SeatOf W) → Goes before now (seen seat) → AreKept before seats → AreKept now (set seats i seat)
 kept_set before now seats i seat goes kept = record {
-  few = goes.kept.few;
+  order_kept = goes.kept.order_kept;
   seated = all_set (λ s. IsSeated now (seen s)) seats i seat (all_grow before now goes.more seats goes.grown kept.seated) goes.kept.seated;
 }
 
@@ -380,7 +362,9 @@ module _ {W : Type 0} (a : Act) (before now : List Event) (seats : List (SeatOf 
         ∙ there_after (nodes_of seats) i (plain_of old.node.parts) (plain_of new.node.parts) (at_nodes seats i old there)
 
     pub step_failed : FailedBy a (i + 1) (cluster_of before (nodes_of seats)) (cluster_of now (nodes_of (set seats i new))) e
-    step_failed = (failed.next, stopped, subst (λ o. MayFailAt now o failed.next e) (sym node_is) failed.may)
+    step_failed =
+        let c = cluster_of now (nodes_of (set seats i new)) in
+        (failed.next, stopped, subst (λ o. MayFailAt c o failed.next e) (sym node_is) (may_in c (plain_of new.node.parts) failed.next e failed.may))
 
 -- ---- answers
 pub if_ok : {A E : Type 0} (P Q : A → Type 0) (r : Result A E) → ((x : A) → P x → Q x) → IfOk r P → IfOk r Q
@@ -455,14 +439,14 @@ will_is c seats at step seat k nodes is fits item counts =
 pub kept_start : {W : Type 0} (order : List Event) (nodes : ℕ) (seats : List (SeatOf W)) → order ≡ start_order nodes → nodes ≤ 9
     → AreSeated order seats → AreKept order seats
 kept_start order nodes seats is small seated = record {
-  few = subst (AllByRecursion HasFewMembers) (sym is) (few_at_start nodes small);
+  order_kept = subst OrderIsKept (sym is) (start_kept nodes small);
   seated = seated;
 }
 
-pub cluster_start : {W : Type 0} (order : List Event) (nodes : ℕ) (id : List ℕ) (seats : List (SeatOf W)) → order ≡ start_order nodes
-    → nodes_of seats ≡ map (start_node id) (up_to nodes) → cluster_of order (nodes_of seats) ≡ start_cluster nodes id
+pub cluster_start : {W : Type 0} (order : List Event) (nodes gcache : ℕ) (id : List ℕ) (seats : List (SeatOf W)) → order ≡ start_order nodes
+    → nodes_of seats ≡ map (start_node gcache id) (up_to nodes) → cluster_of order (nodes_of seats) ≡ start_cluster nodes gcache id
 unfolding start_cluster
-cluster_start order nodes id seats is starts = ap (λ o. cluster_of o (nodes_of seats)) is ∙ ap (cluster_of (start_order nodes)) starts
+cluster_start order nodes gcache id seats is starts = ap (λ o. cluster_of o (nodes_of seats)) is ∙ ap (cluster_of (start_order nodes)) starts
 
 pub same_count : (a b : ℕ) → a ≤ b → b ≤ a → a ≡ b
 same_count a b below above = omega (arith, below, above)

@@ -359,7 +359,7 @@ module _ (count : ℕ) (before now : List Event) (old middle : Seat) (counts : c
         goes = record {
           more = sent.goes.more;
           grown = sent.goes.grown;
-          kept = record { few = sent.goes.kept.few; seated = some.seated };
+          kept = record { order_kept = sent.goes.kept.order_kept; seated = some.seated };
         };
       }
 
@@ -432,7 +432,7 @@ module _ (count : ℕ) (before now : List Event) (old middle : Seat) (counts : c
               goes = record {
                 more = sent.goes.more;
                 grown = sent.goes.grown;
-                kept = record { few = sent.goes.kept.few; seated = three.seated };
+                kept = record { order_kept = sent.goes.kept.order_kept; seated = three.seated };
               };
             }
 

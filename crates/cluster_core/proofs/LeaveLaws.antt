@@ -1,15 +1,12 @@
 -- A node leaves: what that does to the cluster, from what it does to the node's seat.
 use Rattle.std.proofs.Common.{◌≡◌, ℕ, suc, ◌+◌, ◌<◌, ◌≤◌, ◌^◌, Bool, true, false, cond, List, [], ◌∷◌, ◌++◌, length, fold, Option, None, Some, refl, sym, ap, subst, ◌∙◌, arith, length-append}
-use Rattle.std.specs.Prelude.{slice_get, not, ◌==◌}
-use Rattle.std.specs.List.{AllByRecursion, filter}
+use Rattle.std.specs.Prelude.{slice_get}
 use Rattle.finite_map.specs.FiniteMap.{get}
 use Rattle.order_event.specs.declared.event.Event.{Event}
-use Rattle.order_event.specs.declared.event.Event.TheVariants as event
 use Rattle.order_event.specs.declared.step.Act.TheVariants as act
 use Rattle.order_event.specs.declared.step.Answer.{Answer}
 use Rattle.order_event.specs.declared.step.Answer.TheVariants as answer
-use Rattle.order_event.specs.Spelling.{HasFewMembers}
-use Rattle.group_order.specs.Order.{newer_view, last_view, all_but, view_without}
+use Rattle.group_order.specs.Order.{view_without}
 use Rattle.node_meaning.specs.Node.{ModelNode, is_left}
 use Rattle.node_meaning.specs.Leaving.{left_node}
 use Rattle.node_meaning.specs.Cluster.{ModelCluster, set_at, leave, leave_now, step_of}
@@ -23,30 +20,9 @@ use Rattle.cluster_core.specs.Seated.{Seat, IsSeated, work_of}
 use Rattle.cluster_core.specs.Steps.{MayFail}
 use Rattle.cluster_core.specs.Acts.{IsKept, Goes, Acted, Failed, cluster_of}
 use Rattle.cluster_core.proofs.SeatLaws.{seated_grow}
-use Rattle.cluster_core.proofs.ActLaws.{all_append, goes_same, set_at_same}
-
--- ---- the view has few members
-not_more : (test : ℕ → Bool) (xs : List ℕ) → length (filter test xs) ≤ length xs
-not_more test [] = omega arith
-not_more test (x ∷ xs) = by_test (test x) (not_more test xs)
-  where
-    by_test : (b : Bool) → length (filter test xs) ≤ length xs
-        → length (cond b (x ∷ filter test xs) (filter test xs)) ≤ length (x ∷ xs)
-    by_test true h = omega (arith, h)
-    by_test false h = omega (arith, h)
-
-few_last : (order : List Event) (last : ℕ × List ℕ) → length last.1 < 2 ^ 32
-    → AllByRecursion HasFewMembers order → length (fold newer_view last order).1 < 2 ^ 32
-few_last [] last few all = few
-few_last (event.Write member body ∷ order) last few all = few_last order last few all.1
-few_last (event.View version members ∷ order) last few all =
-    few_last order (version, members) all.0 all.1
-few_last (event.Report member number ∷ order) last few all = few_last order last few all.1
-
-few_left : (order : List Event) (member : ℕ) → AllByRecursion HasFewMembers order
-    → HasFewMembers (view_without order member)
-few_left order member all =
-    omega (arith, not_more (λ other. not (other == member)) (last_view order).1, few_last order (0, []) (omega arith) all)
+use Rattle.cluster_core.specs.Orders.{OrderIsKept}
+use Rattle.cluster_core.proofs.OrderLaws.{left_kept}
+use Rattle.cluster_core.proofs.ActLaws.{goes_same, set_at_same}
 
 -- ---- the step
 pub left_already : (order : List Event) (old : Seat) → is_left old.node.at.phase ≡ true
@@ -60,11 +36,11 @@ left_already order old left kept = record {
 }
 
 pub left_now : (before now : List Event) (old : Seat) (node : NodeParts) (number : ℕ)
-    → is_left old.node.at.phase ≡ false
+    → is_left old.node.at.phase ≡ false → length before ≤ 500_000
     → now ≡ before ++ view_without before old.node.at.member ∷ [] → number ≡ length now
     → DoneOver before (quietly left_node before) old.node node tt → IsKept before old
     → Acted act.Leave before now old (record old { node = node }) (answer.Left number)
-left_now before now old node number here is counts d kept =
+left_now before now old node number here short is counts d kept =
     let new : Seat = record old { node = node } in
     let view = view_without before old.node.at.member in
     let left : plain_of node ≡ left_node (plain_of old.node) =
@@ -87,9 +63,7 @@ left_now before now old node number here is counts d kept =
         more = view ∷ [];
         grown = is;
         kept = record {
-          few = subst (AllByRecursion HasFewMembers) (sym is)
-              (all_append HasFewMembers before (view ∷ []) kept.few
-              (few_left before old.node.at.member kept.few, tt));
+          order_kept = subst OrderIsKept (sym is) (left_kept before old.node.at.member short kept.order_kept);
           seated = subst (λ order. IsSeated order new) (sym is) (seated_grow before (view ∷ []) new seated);
         };
       };

@@ -1,7 +1,14 @@
 pub mod ActLaws
 pub mod LeaveLaws
+pub mod JoinLaws
 pub mod CountedLaws
 pub mod DrainLaws
 pub mod DrainSerials
+pub mod Entering
+pub mod GiftLaws
+pub mod LawfulSteps
+pub mod OrderLaws
 pub mod RunLaws
 pub mod SeatLaws
+pub mod TransferLaws
+pub mod TransferSteps

@@ -15,7 +15,7 @@ use Rattle.node_laws.specs.Drains.{after_acts, commit_acts}
 use Rattle.cluster_core.specs.Acts.{Acted, Runs, Stops, cluster_of}
 use Rattle.cluster_core.proofs.ActLaws.{runs_none, there_after}
 
-after_more : (c : ModelCluster) (node : ℕ) (one other : List Act) → after_acts c node (one ++ other) ≡ after_acts (after_acts c node one) node other
+pub after_more : (c : ModelCluster) (node : ℕ) (one other : List Act) → after_acts c node (one ++ other) ≡ after_acts (after_acts c node one) node other
 unfolding after_acts
 after_more c node [] other = refl
 after_more c node (a ∷ one) other = after_more (cluster_step c (record { node = node; act = a })).1 node one other

@@ -47,9 +47,9 @@ on_err (Ok a) p = tt
 on_err (Err e) p = p
 
 -- ---- at the start
-pub new_seated : (order : List Event) (id : List ℕ) (member : ℕ) (seat : Seat) → plain_of seat.node ≡ start_node id member
+pub new_seated : (order : List Event) (gcache : ℕ) (id : List ℕ) (member : ℕ) (seat : Seat) → plain_of seat.node ≡ start_node gcache id member
     → seat.done ≡ [] → Stands order seat.node → IsSeated order seat
-new_seated order id member seat start none st = record {
+new_seated order gcache id member seat start none st = record {
   stands = st;
   work = λ k. ap (λ es. kept_at es k) none
       ∙ ap (λ o. work_of order k (is_started o)) (sym (get-empty nat_cmp k))

@@ -5,19 +5,19 @@ use Rattle.order_event.specs.declared.event.Event.{Event}
 use Rattle.order_event.specs.declared.step.Act.{Act}
 use Rattle.order_event.specs.declared.step.Act.TheVariants as act
 use Rattle.order_event.specs.declared.step.Answer.{Answer}
-use Rattle.order_event.specs.Spelling.{HasFewMembers}
 use Rattle.node_meaning.specs.Node.{ModelNode}
 use Rattle.node_meaning.specs.Cluster.{ModelCluster, set_at, step_of}
 use Rattle.node_core.specs.Stands.{plain_of}
 use Rattle.cluster_core.specs.declared.seat.Seat as declared
+use Rattle.cluster_core.specs.Orders.{OrderIsKept}
 use Rattle.cluster_core.specs.Seated.{Seat, IsSeated, seen}
 use Rattle.cluster_core.specs.declared.fault.StepFault.{StepFault}
 use Rattle.node_laws.specs.Drains.{after_acts, drain_acts}
 use Rattle.cluster_core.specs.Steps.{MayFail}
 
--- the seat stands over the order, and the members of each view can be counted
+-- the seat stands over the order
 pub record IsKept (order : List Event) (seat : Seat) : Type 0 where
-  pub few : AllByRecursion HasFewMembers order
+  pub order_kept : OrderIsKept order
   pub seated : IsSeated order seat
 
 -- the order grew, and the seat stands over it
@@ -73,7 +73,7 @@ pub record Failed (a : Act) (before now : List Event) (old new : Seat)
 
 -- all seats of a cluster stand over the order
 pub record AreKept {W : Type 0} (order : List Event) (seats : List (declared.Seat W)) : Type 0 where
-  pub few : AllByRecursion HasFewMembers order
+  pub order_kept : OrderIsKept order
   pub seated : AllByRecursion (λ s. IsSeated order (seen s)) seats
 
 abbrev pub nodes_of : {W : Type 0} → List (declared.Seat W) → List ModelNode

@@ -1,6 +1,9 @@
 pub mod Acts
 pub mod Drain
 pub mod Faults
+pub mod Lawful
+pub mod Orders
 pub mod Seated
 pub mod State
 pub mod Steps
+pub mod Transfers

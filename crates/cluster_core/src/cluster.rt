@@ -5,7 +5,8 @@ ghost use Rattle.group_order.specs.Order.{start_order};
 ghost use Rattle.node_meaning.specs.Cluster.{start_cluster, cluster_step, will_order};
 
 use crate::fault::StepFault;
-use crate::seat::{Seat, leave_orders};
+use crate::ranges::act_in_range;
+use crate::seat::{Seat, join_orders, leave_orders};
 use crate::steps::step_at;
 use group_order::Group;
 use order_event::{Act, Answer, Step};
@@ -37,7 +38,8 @@ pub type Cluster<G> = ClusterOf<G, Box<dyn Watcher + Send>>;
 
 impl<G: Group, W: Watcher> Model for ClusterOf<G, W> {
     ghost use Rattle.cluster_core.specs.State.{ClusterState};
-    ghost use Rattle.cluster_core.specs.Acts.{AreKept, nodes_of};
+    ghost use Rattle.cluster_core.specs.Acts.{AreKept, cluster_of, nodes_of};
+    ghost use Rattle.cluster_core.specs.Lawful.{IsLawful};
 
     ghost Value = { ClusterState };
 
@@ -47,7 +49,8 @@ impl<G: Group, W: Watcher> Model for ClusterOf<G, W> {
           faults = G.faults c.group;
         } };
 
-    ghost invariant = { λ c. AreKept (G.order c.group) c.seats.items };
+    ghost invariant = { λ c. AreKept (G.order c.group) c.seats.items
+        × IsLawful (cluster_of (G.order c.group) (nodes_of c.seats.items)) };
 }
 
 impl<G: Group, W: Watcher> ClusterOf<G, W> {
@@ -56,8 +59,8 @@ impl<G: Group, W: Watcher> ClusterOf<G, W> {
     ghost use Rattle.cluster_core.specs.Steps.{has_session, FailedBy, HasGroupCause};
 
     /// So many nodes at their start, over a group at its start. Watcher i goes to node i; those
-    /// beyond the last node are told that they ended at 0, and dropped. The size of the ring of
-    /// events, in bytes, is not used yet.
+    /// beyond the last node are told that they ended at 0, and dropped. Each node holds events that
+    /// it took for others that join, in a ring of `gcache` bytes.
     pub fn new(
         alloc: Global,
         group: G,
@@ -71,7 +74,7 @@ impl<G: Group, W: Watcher> ClusterOf<G, W> {
         requires id { id ≢ nil_id }
         requires ring { gcache ≤ 16_777_216 }
         requires order { G.order group ≡ start_order nodes }
-        ensures start { IfOk result (λ c. c.model ≡ start_cluster nodes id) }
+        ensures start { IfOk result (λ c. c.model ≡ start_cluster nodes gcache id) }
         ensures faults { IfOk result (λ c. c.faults ≡ G.faults group) }
         ensures nodes { IfOk result (λ c. length c.model.nodes ≡ nodes) }
         ensures counts { IfOk result (λ c. given c.model ≡ 1) }
@@ -102,6 +105,7 @@ impl<G: Group, W: Watcher> ClusterOf<G, W> {
             (length self.new.model.order
             ≡ length self.old.model.order + will_order self.old.model step.now) }
     {
+        act_in_range(&step.act);
         let at = usize::from(step.node) - 1;
         step_at(&mut self.seats, at, &mut self.group, &step.act)
     }
@@ -118,11 +122,13 @@ impl<G: Group, W: Watcher> ClusterOf<G, W> {
         requires { (1 ≤ step.now.node) × (step.now.node ≤ length self.now.model.nodes) }
         ensures { result ≡ will_order self.now.model step.now }
     {
-        let place = self.seats[usize::from(step.node) - 1].node.place();
+        let node = &self.seats[usize::from(step.node) - 1].node;
+        let place = node.place();
         match step.act {
             Act::Order => place.outbox.min(1),
             Act::Drain => place.outbox,
             Act::Leave => leave_orders(place.phase),
+            Act::Join(_) => join_orders(place.phase, node.taken(), node.committed()),
             _ => 0,
         }
     }
@@ -160,7 +166,7 @@ fn seats_of<W: Watcher>(
     requires id { id ≢ nil_id }
     requires ring { gcache ≤ 16_777_216 }
     ensures nodes { IfOk result
-        (λ seats. nodes_of seats.items ≡ map (start_node id) (up_to nodes)) }
+        (λ seats. nodes_of seats.items ≡ map (start_node gcache id) (up_to nodes)) }
     ensures seated { IfOk result
         (λ seats. (order : List Ordered) → AllByRecursion (λ s. IsSeated order (seen s))
         seats.items) }

@@ -4,8 +4,10 @@
 mod cluster;
 mod drain;
 mod fault;
+mod ranges;
 mod seat;
 mod steps;
+mod transfer;
 
 pub use cluster::{Cluster, ClusterOf, NodeEnd};
 pub use fault::StepFault;

@@ -1,7 +1,9 @@
 ghost use Rattle.std.specs.Prelude.{◌≡◌, ◌≢◌, ◌≤◌, ◌<◌, ◌^◌, List, length, IfOk, OnOk, OnErr, IsTrue};
 
 use apply_unit::Done;
-use node_core::{Advanced, Certified, NodeOf, Reported, Started, Status, Taken};
+use node_core::{
+    Advanced, Certified, Gift, NodeOf, ReceiveFault, Reported, Started, Status, Taken,
+};
 use node_meaning::Phase;
 use order_event::{Answer, Event};
 use row_model::Call;
@@ -30,6 +32,7 @@ impl<W: Watcher> Seat<W> {
     ghost use Rattle.node_core.specs.Memory.{CallWants, TakeWants, CertifyWants, StartWants, ReportWants};
     ghost use Rattle.node_laws.specs.Given.{CanGoOn};
     ghost use Rattle.cluster_core.specs.Seated.{IsSeated, IsSomewhere, SeatDoes, SeatDone, SeatTakes, SeatUnchanged, seen};
+    ghost use Rattle.cluster_core.specs.Transfers.{Receives, TakesGift};
     ghost use Rattle.std.specs.HashMap.{spare};
 
     /// A node at its start, with no unit.
@@ -42,7 +45,8 @@ impl<W: Watcher> Seat<W> {
     ) -> Result<Seat<W>, NoMemory>
         requires id { id ≢ nil_id }
         requires ring { gcache ≤ 16_777_216 }
-        ensures start { IfOk result (λ seat. plain_of seat.node.parts ≡ start_node id member) }
+        ensures start { IfOk result (λ seat. plain_of seat.node.parts
+            ≡ start_node gcache id member) }
         ensures seated { IfOk result (λ seat. (order : List Ordered) → IsSeated order (seen seat)) }
     {
         Ok(Seat {
@@ -146,6 +150,19 @@ impl<W: Watcher> Seat<W> {
         advanced_answer(self.node.advance())
     }
 
+    /// The node takes what another gave.
+    pub(crate) fn receive(&mut self, gift: &Gift) -> Result<(), NoMemory>
+        requires awaits { Receives gift.now (seen self.old) }
+        ensures ok { OnOk result (TakesGift gift.now (seen self.old) (seen self.new)) }
+        ensures err { OnErr result (SeatUnchanged (seen self.old) (seen self.new)) }
+    {
+        match self.node.receive(gift) {
+            Ok(_) => Ok(()),
+            Err(ReceiveFault::NoMemory) => Err(NoMemory),
+            Err(ReceiveFault::Snap(_)) => unreachable!(),
+        }
+    }
+
     /// Where the node stands, and how much it keeps for certification.
     pub(crate) fn status(&self) -> Answer
         requires seated { IsSomewhere (seen self.now) }
@@ -170,8 +187,8 @@ impl<W: Watcher> Seat<W> {
 }
 
 ghost use Rattle.std.specs.HashMap.{spare};
-ghost use Rattle.std.specs.Prelude.{if◌then◌else◌};
-ghost use Rattle.node_meaning.specs.Node.{is_left};
+ghost use Rattle.std.specs.Prelude.{◌&&◌, ◌==◌, if◌then◌else◌};
+ghost use Rattle.node_meaning.specs.Node.{is_left, is_joining};
 ghost use Rattle.node_core.specs.Answers.{taken_answer, certified_answer, started_answer, advanced_answer, reported_answer, status_answer};
 ghost use Rattle.node_core.specs.Memory.{is_start};
 ghost use Rattle.cluster_core.specs.Seated.{KeepsTask};
@@ -186,11 +203,33 @@ pub(crate) fn has_left(phase: Phase) -> bool
     }
 }
 
+/// Whether a node waits for the state that it misses.
+pub(crate) fn is_joining(phase: Phase) -> bool
+    ensures { result ≡ is_joining phase }
+{
+    match phase {
+        Phase::Joining => true,
+        Phase::Left | Phase::Connected => false,
+    }
+}
+
 /// How many events a leave of a node in this phase orders.
 pub(crate) fn leave_orders(phase: Phase) -> u64
     ensures { result ≡ (if is_left phase then 0 else 1) }
 {
     if has_left(phase) { 0 } else { 1 }
+}
+
+/// How many events a join of a node orders that is in this phase, has taken up to the one number
+/// and committed up to the other.
+pub(crate) fn join_orders(phase: Phase, taken: u64, committed: u64) -> u64
+    ensures { result ≡ (if is_left phase && taken == committed then 1 else 0) }
+{
+    if has_left(phase) && taken == committed {
+        1
+    } else {
+        0
+    }
 }
 
 fn taken_answer(taken: Taken) -> Answer

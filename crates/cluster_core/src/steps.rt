@@ -8,10 +8,13 @@ ghost use Rattle.node_laws.specs.Given.{CanGoOn};
 ghost use Rattle.cluster_core.specs.Steps.{has_session, FailedBy, HasGroupCause};
 ghost use Rattle.cluster_core.specs.Acts.{IsKept, AreKept, Acted, Failed, cluster_of, nodes_of};
 ghost use Rattle.cluster_core.specs.Seated.{seen};
+ghost use Rattle.cluster_core.specs.Transfers.{MayEnter, IsAlone};
 
 use crate::drain::drain;
 use crate::fault::StepFault;
+use crate::ranges::message_in_range;
 use crate::seat::{Seat, has_left};
+use crate::transfer::transfer;
 use group_order::Group;
 use order_event::{Act, Answer};
 use wsrep_watch::Watcher;
@@ -30,6 +33,8 @@ pub(crate) fn step_at<G: Group, W: Watcher>(
         (slice_get (nodes_of seats.old.items) at) act.now ≤ 500_000 }
     requires counts { (n : ModelNode) → slice_get (nodes_of seats.old.items) at ≡ Some n
         → CanGoOn n }
+    requires enters { (n : ModelNode) → slice_get (nodes_of seats.old.items) at ≡ Some n
+        → MayEnter (G.order group.old) n }
     ensures ok { IfOk result
         (λ answer. (answer, cluster_of (G.order group.new) (nodes_of seats.new.items))
         ≡ step_at (cluster_of (G.order group.old) (nodes_of seats.old.items)) at
@@ -40,10 +45,13 @@ pub(crate) fn step_at<G: Group, W: Watcher>(
     ensures kept { AreKept (G.order group.new) seats.new.items }
     ensures cause { HasGroupCause (G.faults group.old) (G.faults group.new) result }
 {
-    step_on(&mut seats[at], group, act)
+    match act {
+        Act::Transfer(donor) => Ok(transfer(seats, at, *donor)?),
+        _ => step_on(&mut seats[at], group, act),
+    }
 }
 
-/// What a step of the node is answered.
+/// What a step of the node is answered, which needs no other node.
 pub(crate) fn step_on<G: Group, W: Watcher>(
     seat: &mut Seat<W>,
     group: &mut G,
@@ -55,6 +63,8 @@ pub(crate) fn step_on<G: Group, W: Watcher>(
         + node_orders act.now (plain_of seat.old.node.parts)
         ≤ 500_000 }
     requires counts { CanGoOn (plain_of seat.old.node.parts) }
+    requires enters { MayEnter (G.order group.old) (plain_of seat.old.node.parts) }
+    requires alone { IsAlone act.now }
     ensures ok { IfOk result
         (Acted act.now (G.order group.old) (G.order group.new) (seen seat.old) (seen seat.new)) }
     ensures err { IfErr result
@@ -73,8 +83,8 @@ pub(crate) fn step_on<G: Group, W: Watcher>(
         Act::Report => Ok(seat.report()?),
         Act::Status => Ok(seat.status()),
         Act::Leave => leave(seat, group),
-        Act::Join(_) => Ok(Answer::Nothing),
-        Act::Transfer(_) => Ok(Answer::Nothing),
+        Act::Join(fresh) => join(seat, group, *fresh),
+        Act::Transfer(_) => unreachable!(),
     }
 }
 
@@ -97,6 +107,7 @@ pub(crate) fn order_first<G: Group, W: Watcher>(
     let Some(message) = seat.node.first_out() else {
         return Ok(Answer::Nothing);
     };
+    message_in_range(message);
     let number = group.order(member, message)?;
     seat.node.sent_out();
     Ok(Answer::Ordered(number))
@@ -121,6 +132,36 @@ fn leave<G: Group, W: Watcher>(seat: &mut Seat<W>, group: &mut G) -> Result<Answ
     let number = group.leave(place.member)?;
     let _watcher = seat.node.leave();
     Ok(Answer::Left(number))
+}
+
+/// A view with a new member is ordered, and the node waits for what it misses.
+fn join<G: Group, W: Watcher>(
+    seat: &mut Seat<W>,
+    group: &mut G,
+    fresh: bool,
+) -> Result<Answer, StepFault>
+    requires kept { IsKept (G.order group.old) (seen seat.old) }
+    requires events { length (G.order group.old)
+        + node_orders (act.Join fresh) (plain_of seat.old.node.parts) ≤ 500_000 }
+    requires enters { MayEnter (G.order group.old) (plain_of seat.old.node.parts) }
+    ensures ok { IfOk result (Acted (act.Join fresh) (G.order group.old) (G.order group.new)
+        (seen seat.old) (seen seat.new)) }
+    ensures err { IfErr result (Failed (act.Join fresh) (G.order group.old) (G.order group.new)
+        (seen seat.old) (seen seat.new)) }
+    ensures cause { HasGroupCause (G.faults group.old) (G.faults group.new) result }
+{
+    let place = seat.node.place();
+    if !has_left(place.phase) {
+        return Ok(Answer::StillJoined);
+    }
+    let taken = seat.node.taken();
+    let committed = seat.node.committed();
+    if taken != committed {
+        return Ok(Answer::NotDrained(taken, committed));
+    }
+    let (view, member) = group.join()?;
+    seat.node.join(fresh, member, view);
+    Ok(Answer::Joining(view, member))
 }
 
 /// The next event of the order is taken, where there is one. A node that is not connected asks the

@@ -70,4 +70,11 @@ impl Group for FailingGroup {
         }
         self.group.leave(member)
     }
+
+    fn join(&mut self) -> Result<(u64, u32), GroupFault> {
+        if self.fails() {
+            return Err(GroupFault::Failed);
+        }
+        self.group.join()
+    }
 }

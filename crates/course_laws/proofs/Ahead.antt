@@ -28,7 +28,7 @@ use Rattle.course_laws.specs.Ordered.{Stage, Early, Since}
 use Rattle.course_laws.specs.Laws.{IsByConflict}
 use Rattle.course_laws.proofs.Certifying.{own_decided}
 use Rattle.course_laws.proofs.PendingSets.{own_next}
-use Rattle.course_laws.proofs.StageMoved.{first_event}
+use Rattle.course_laws.proofs.StageMoved.{no_write}
 use Rattle.course_laws.proofs.Taking.{taken}
 use Rattle.course_laws.proofs.Following.{Follows, stayed, still_follows}
 
@@ -117,8 +117,7 @@ module _ (order : List Event) (member : ℕ) where
       → Follows order member n → Stage order n
       → DecidedAt order n.at.member n.at.certified body
   decided_here n body more there h (Early early) =
-      absurd (write_not_view n.at.member early.version body early.members
-      (first_event order n h.facts early (event.Write n.at.member body) there))
+      absurd (no_write order n h.facts early body there)
   decided_here n body more there h (Since o) =
       let own = own_next order n h.facts body more there in (
         own.set,

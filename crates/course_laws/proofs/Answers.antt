@@ -1,6 +1,6 @@
 -- Only a take could answer SPLIT, and none does: so no step of a run answers it.
-use Rattle.std.proofs.Common.{◌≡◌, ℕ, ◌+◌, ◌-◌, ◌<◌, ◌^◌, Bool, true, false, cond, List, [], ◌∷◌, ◌++◌, length, Option, Some, None, refl, ap, sym, subst, ◌∙◌, arith, length-append, true≢false}
-use Rattle.std.specs.Prelude.{◌==◌, ◌||◌, nat_lt, slice_get, is_some}
+use Rattle.std.proofs.Common.{◌≡◌, ℕ, ◌+◌, ◌-◌, ◌≤◌, ◌<◌, ◌^◌, Bool, true, false, cond, List, [], ◌∷◌, length, Option, Some, None, refl, ap, sym, ◌∙◌, arith, true≢false}
+use Rattle.std.specs.Prelude.{◌==◌, ◌||◌, not, nat_lt, slice_get, is_some}
 use Rattle.std.specs.List.{AllByRecursion}
 use Rattle.finite_map.specs.FiniteMap.{get}
 use Rattle.wsrep_base.specs.Trx.{greatest}
@@ -11,17 +11,21 @@ use Rattle.order_event.specs.declared.step.Act.TheVariants as act
 use Rattle.order_event.specs.declared.step.Answer.{Answer}
 use Rattle.order_event.specs.declared.step.Answer.TheVariants as answer
 use Rattle.order_event.specs.declared.step.Step.{Step}
+use Rattle.group_order.specs.Order.{last_member}
+use Rattle.state_transfer.specs.declared.transfer.Plan.{Plan}
+use Rattle.state_transfer.specs.declared.transfer.Plan.TheVariants as plan
 use Rattle.cert_meaning.specs.declared.items.CommitItem.{CommitItem}
 use Rattle.node_meaning.specs.declared.progress.Stage.{Stage}
 use Rattle.node_meaning.specs.declared.progress.Stage.TheVariants.{Started, Finished}
-use Rattle.node_meaning.specs.Node.{ModelNode, ApplyUnit, is_left, is_joining, ahead, passed_at}
+use Rattle.node_meaning.specs.Node.{ModelNode, ApplyUnit, is_left, is_joining, is_connected, ahead, passed_at}
 use Rattle.node_meaning.specs.Steps.{is_local, touching_before, certify_event, certify_step, start_after, start_unit, start_step, finish_stage, finish_unit, finish_step, is_ready, committed_next, advance_step, put_report, report_step}
-use Rattle.node_meaning.specs.Cluster.{ModelCluster, start_cluster, order_first, step_of, step_at, cluster_step, run, leave_now}
+use Rattle.node_meaning.specs.Cluster.{ModelCluster, start_cluster, order_first, with_node, step_of, step_at, cluster_step, run, leave_now, join_now}
 use Rattle.node_meaning.specs.Status.{status_step}
-use Rattle.node_laws.specs.Fits.{ActFits}
-use Rattle.node_laws.proofs.SetLists.{all_push}
-use Rattle.course_laws.specs.Laws.{NoSplit, RunsNeverSplit}
-use Rattle.course_laws.proofs.Runs.{runs_are_lawful}
+use Rattle.node_meaning.specs.Joining.{received_snapshot, by_plan, transfer_plan, transfer_from}
+use Rattle.course_laws.specs.Laws.{NoSplit, joins, RunsNeverSplit}
+use Rattle.course_laws.specs.RunLaws.{RunLaws}
+use Rattle.course_laws.proofs.RunLaws.{node_laws_of}
+use Rattle.course_laws.proofs.Runs.{StepFits, first_room, first_laws, start_room, start_laws}
 
 abbrev is_split : Answer → Bool
 is_split answer.Split = true
@@ -109,6 +113,48 @@ module _ (c : ModelCluster) (i : ℕ) (n : ModelNode) (whole : NoSplit c.order n
   leave_by true = refl
   leave_by false = refl
 
+  join_by : (fresh b d : Bool)
+      → is_split (cond (not b) (answer.StillJoined, c) (cond d (join_now fresh c i n)
+      (answer.NotDrained n.at.taken n.at.committed, c))).0 ≡ false
+  join_by fresh false d = refl
+  join_by fresh true false = refl
+  join_by fresh true true = refl
+
+  snapshot_by : (donor : ModelNode) (b early : Bool)
+      → is_split (cond {A = Answer × ModelNode} (not b)
+      (answer.DonorBusy donor.at.certified donor.at.committed, n)
+      (cond {A = Answer × ModelNode} early (answer.DonorBehind n.at.view donor.at.committed, n)
+      (answer.Sst donor.at.committed, received_snapshot donor.at.committed donor.id n))).0 ≡ false
+  snapshot_by donor false early = refl
+  snapshot_by donor true true = refl
+  snapshot_by donor true false = refl
+
+  plan_by : (donor : ModelNode) (by : Plan) → is_split (by_plan n donor by).0 ≡ false
+  plan_by donor (plan.Ist from) = refl
+  plan_by donor plan.Sst =
+      snapshot_by donor (donor.at.certified == donor.at.committed)
+      (nat_lt donor.at.committed n.at.view)
+
+  donor_by : (donor : ModelNode) (b early : Bool)
+      → is_split (cond {A = Answer × ModelNode} (not b) (answer.NoDonor, n)
+      (cond {A = Answer × ModelNode} early (answer.DonorBehind n.at.view donor.at.taken, n)
+      (by_plan n donor (transfer_plan c.order n donor)))).0 ≡ false
+  donor_by donor false early = refl
+  donor_by donor true true = refl
+  donor_by donor true false = plan_by donor (transfer_plan c.order n donor)
+
+  from_by : (o : Option ModelNode) → is_split (transfer_from c.order n o).0 ≡ false
+  from_by None = refl
+  from_by (Some donor) =
+      donor_by donor (is_connected donor.at.phase) (nat_lt donor.at.taken n.at.view)
+
+  transfer_by : (donor : ℕ) (b : Bool)
+      → is_split (cond b
+      (with_node c i (transfer_from c.order n (slice_get c.nodes (donor - 1))))
+      (answer.NotJoining, c)).0 ≡ false
+  transfer_by donor true = from_by (slice_get c.nodes (donor - 1))
+  transfer_by donor false = refl
+
   step_whole : (a : Act) → (step_of c i n a).0 ≡ answer.Split → ⊥
   step_whole (act.Client session call) = not_split _ refl
   step_whole act.Order = not_split _ (first_by n.outbox)
@@ -121,8 +167,9 @@ module _ (c : ModelCluster) (i : ℕ) (n : ModelNode) (whole : NoSplit c.order n
   step_whole act.Report = not_split _ (report_whole n)
   step_whole act.Status = not_split _ (status_whole c.order n)
   step_whole act.Leave = not_split _ (leave_by (is_left n.at.phase))
-  step_whole (act.Join fresh) = not_split _ refl
-  step_whole (act.Transfer donor) = not_split _ refl
+  step_whole (act.Join fresh) =
+      not_split _ (join_by fresh (is_left n.at.phase) (n.at.taken == n.at.committed))
+  step_whole (act.Transfer donor) = not_split _ (transfer_by donor (is_joining n.at.phase))
 
 module _ (c : ModelCluster)
     (whole : (i : ℕ) (n : ModelNode) → slice_get c.nodes i ≡ Some n → NoSplit c.order n) where
@@ -137,36 +184,23 @@ module _ (c : ModelCluster)
       at_whole (step.node - 1) (slice_get c.nodes (step.node - 1)) step.act refl
 
 -- ---- a run
-run_more : (front : List Step) (step : Step) (c : ModelCluster)
-    → (run (front ++ step ∷ []) c).1 ≡ (cluster_step (run front c).1 step).1
-unfolding run
-run_more [] step c = refl
-run_more (s ∷ front) step c = run_more front step (cluster_step c s).1
-
 abbrev Whole : Answer → Type 0
 Whole a = a ≡ answer.Split → ⊥
 
-module _ (nodes : ℕ) (id : List ℕ) (small : nodes < 2 ^ 32) where
-  abbrev Fit : Step → Type 0
-  Fit step = ActFits step.act
-
-  answers_whole : (steps front : List Step) → length front + length steps < 2 ^ 63
-      → AllByRecursion Fit front → AllByRecursion Fit steps
-      → AllByRecursion Whole (run steps (run front (start_cluster nodes id)).1).0
-  unfolding run
-  answers_whole [] front few before fits = tt
-  answers_whole (step ∷ steps) front few before fits =
-      let c = (run front (start_cluster nodes id)).1 in
-      let count = length-append front (step ∷ []) in
-      let laws = runs_are_lawful nodes id front small (omega (arith, few)) before in (
-        cluster_whole c (λ i n there. (laws i n there).whole) step,
-        subst (λ d. AllByRecursion Whole (run steps d).0)
-            (run_more front step (start_cluster nodes id))
-            (answers_whole steps (front ++ step ∷ []) (omega (arith, few, count))
-            (all_push Fit front step before fits.0) fits.1),
-      )
+answers_whole : (steps : List Step) (most : ℕ) (c : ModelCluster) → most + length steps ≤ 2 ^ 63
+    → last_member c.order + joins steps < 2 ^ 32 → AllByRecursion StepFits steps → RunLaws most c
+    → AllByRecursion Whole (run steps c).0
+unfolding run
+answers_whole [] most c few room fits h = tt
+answers_whole (step ∷ steps) most c few room fits h = (
+  cluster_whole c (λ i n there. (node_laws_of most c h i n there).whole) step,
+  answers_whole steps (most + 1) (cluster_step c step).1 (omega (arith, few))
+      (first_room most c step steps few room fits h) fits.1
+      (first_laws most c step steps few room fits h),
+)
 
 pub runs_never_split : RunsNeverSplit
-unfolding run
-runs_never_split nodes id steps small few fits =
-    answers_whole nodes id small steps [] (omega (arith, few)) tt fits
+runs_never_split nodes gcache id steps room few fits =
+    answers_whole steps 1 (start_cluster nodes gcache id) (omega (arith, few))
+    (start_room nodes gcache id steps room few fits) fits
+    (start_laws nodes gcache id steps room few fits)

@@ -1,6 +1,6 @@
--- Rows of moves keep what holds of a node over the order so far, in its group or left; and a client
--- call is such a row.
-use Rattle.std.proofs.Common.{◌≡◌, ℕ, ◌≤◌, Bool, true, false, List, Option, Some, None, refl, sym, subst, ◌∙◌, arith, ltb-false, true≢false, ap, ◌<◌}
+-- Rows of moves keep what holds of a node over the order so far, wherever it is; and a client call
+-- is such a row.
+use Rattle.std.proofs.Common.{◌≡◌, ℕ, ◌+◌, ◌≤◌, Bool, true, false, List, Option, Some, None, refl, sym, subst, ◌∙◌, arith, eq-eqb, ltb-false, true≢false, ap}
 use Rattle.std.specs.Prelude.{◌||◌, slice_get, nat_lt, ◌==◌}
 use Rattle.finite_map.specs.FiniteMap.{get}
 use Rattle.row_model.specs.declared.calls.Call.{Call}
@@ -13,53 +13,19 @@ use Rattle.node_meaning.specs.declared.progress.Phase.TheVariants as phase
 use Rattle.node_meaning.specs.Node.{ModelNode, is_left, is_joining, is_connected}
 use Rattle.node_meaning.specs.Client.{is_pending, served, asked, told_first, client}
 use Rattle.node_meaning.specs.Steps.{put_report, report_step}
-use Rattle.node_meaning.specs.Facts.{Facts}
 use Rattle.node_meaning.proofs.EntryLaws.{less_from}
 use Rattle.node_meaning.specs.Status.{status_step}
-use Rattle.node_laws.proofs.Moves.{Kind, Pays, Works, Quiet, Move, Tells, Advances, Commits, May, Reaches, Here, Quietly, Working, one, chosen, kept, Leaves, Takes, cost, Paying, Joint}
+use Rattle.node_laws.proofs.Moves.{Kind, Pays, Works, Quiet, Move, Tells, Begins, Extends, Streams, Sends, Ends, TakesBack, Unlocks, Reports, Orders, Certifies, Passes, Fails, Advances, Commits, May, Reaches, Here, Quietly, Working, one, chosen, kept, Leaves, Takes, cost, Paying, Joint}
 use Rattle.node_laws.proofs.ClientMoves.{CanCall, client_moves}
 use Rattle.node_laws.proofs.ReportMoves.{report_moves}
 use Rattle.node_laws.proofs.Counts.{move_grows}
 use Rattle.node_laws.proofs.FactsMoved.{facts_moved}
-use Rattle.node_laws.specs.InStep.{IsInStep, IsCleared}
 use Rattle.node_laws.proofs.InStep.{in_step_moved, phase_moved}
 use Rattle.node_laws.proofs.Cleared.{cleared_reached}
-use Rattle.course_laws.specs.Ordered.{Keeps, Stage}
+use Rattle.node_laws.proofs.Joining.{view_moved}
+use Rattle.course_laws.specs.Ordered.{Keeps}
+pub use Rattle.course_laws.specs.Places.{AllKeep, HasStayed, HasJoined, FirstKeep, HasLeft, Place, Inside, Entering, Outside, Follows}
 use Rattle.course_laws.proofs.StageMoved.{stage_moved}
-
--- all events keep the member
-abbrev pub AllKeep : List Event → ℕ → Type 0
-AllKeep order member = (j : ℕ) (e : Event) → slice_get order j ≡ Some e → Keeps member e
-
--- a node in its group: its messages behind what it took are those that it had ordered, and all
--- events keep its member
-pub record HasStayed (order : List Event) (n : ModelNode) : Type 0 where
-  pub connected : n.at.phase ≡ phase.Connected
-  pub in_step : IsInStep order n
-  pub keeps : AllKeep order n.at.member
-
--- the first so many do
-abbrev pub FirstKeep : List Event → ℕ → ℕ → Type 0
-FirstKeep order member count =
-    (j : ℕ) (e : Event) → j < count → slice_get order j ≡ Some e → Keeps member e
-
--- a node that left: nothing is queued, each live transaction has sent its commit, and all events
--- that it took keep its member
-pub record HasLeft (order : List Event) (n : ModelNode) : Type 0 where
-  pub left : n.at.phase ≡ phase.Left
-  pub cleared : IsCleared n.ordered n.outbox n.live
-  pub keeps : FirstKeep order n.at.member n.at.taken
-
-pub data Place (order : List Event) (n : ModelNode) : Type 0 where
-  Inside : HasStayed order n → Place order n
-  Outside : HasLeft order n → Place order n
-
--- what holds of the node of a member
-pub record Follows (order : List Event) (member : ℕ) (n : ModelNode) : Type 0 where
-  pub home : n.at.member ≡ member
-  pub facts : Facts order n
-  pub stage : Stage order n
-  pub place : Place order n
 
 pub synced_moved : (order : List Event) (given : Type 0) (n : ModelNode) (k : Kind) (m : ModelNode)
     → Move order given n k m → n.at.view ≤ n.at.committed → m.at.view ≤ m.at.committed
@@ -79,7 +45,7 @@ alone order given n Quiet m may move = Quietly Here move
 module _ (order : List Event) (given : Type 0) (n : ModelNode) (h : HasLeft order n) where
   -- it takes nothing
   keeps_moved : (k : Kind) (m : ModelNode) → May true k → Move order given n k m
-      → FirstKeep order m.at.member m.at.taken
+      → FirstKeep order m.at.member m.at.view m.at.taken
   keeps_moved k m may (Takes e ordered there leaves) =
       absurd (true≢false (sym leaves.connected ∙ ap is_connected h.left))
   keeps_moved k m may (Leaves stay) = absurd may
@@ -94,28 +60,80 @@ module _ (order : List Event) (given : Type 0) (n : ModelNode) (h : HasLeft orde
         keeps = keeps_moved k m may move;
       }
 
+-- ---- the moves of a node that joins
+module _ (order : List Event) (given : Type 0) (n : ModelNode) (h : HasJoined order n) where
+  not_more : n.at.certified == n.at.taken ≡ false → ⊥
+  not_more more = true≢false (sym (eq-eqb n.at.certified n.at.taken h.rest.all_certified) ∙ more)
+
+  not_ready : n.at.committed == n.at.certified ≡ false → ⊥
+  not_ready more =
+      true≢false (sym (eq-eqb n.at.committed n.at.certified
+      (omega (arith, h.rest.all_certified, h.rest.all_committed))) ∙ more)
+
+  not_live : {X : Type 0} (s : ℕ) (t : Live) → get n.live s ≡ Some t → X
+  not_live s t there = absurd (h.rest.none_live s t there)
+
+  joining_moved : (k : Kind) (m : ModelNode) → (k ≡ Pays → n.at.view ≤ n.at.committed)
+      → May true k → Move order given n k m → HasJoined order m
+  joining_moved k m synced may (Begins se unit begins) =
+      absurd (omega (arith, synced refl, h.behind, h.rest.all_committed))
+  joining_moved k m synced may (Extends se t change here fits free) = not_live se t here.there
+  joining_moved k m synced may (Streams se t here change range) = not_live se t here.there
+  joining_moved k m synced may (Sends se t here range) = not_live se t here.there
+  joining_moved k m synced may (Ends se t o there) = not_live se t there
+  joining_moved k m synced may (TakesBack se t w o there due range) = not_live se t there
+  joining_moved k m synced may (Unlocks se t to there unlocked) = not_live se t there
+  joining_moved k m synced may (Reports stays) =
+      absurd (omega (arith, synced refl, h.behind, h.rest.all_committed))
+  joining_moved k m synced may (Orders front back is) = absurd may
+  joining_moved k m synced may (Leaves stay) = absurd may
+  joining_moved k m synced may (Takes e ordered there leaves) =
+      absurd (true≢false (sym leaves.connected ∙ ap is_connected h.joining))
+  joining_moved k m synced may (Certifies e next) = absurd (not_more next.more)
+  joining_moved k m synced may (Passes se t body w judged pass) = not_live se t judged.there
+  joining_moved k m synced may (Fails se t body w v judged came) = not_live se t judged.there
+  joining_moved k m synced may (Advances next none) = absurd (not_ready next.more)
+  joining_moved k m synced may (Commits se t next there is) = not_live se t there
+  joining_moved k m synced may _ = record {
+    joining = h.joining;
+    rest = h.rest;
+    behind = h.behind;
+    in_step = h.in_step;
+    keeps = h.keeps;
+  }
+
 -- ---- all moves
 module _ (order : List Event) (given : Type 0) (n : ModelNode) where
-  place_moved : (k : Kind) (m : ModelNode) → May true k → Move order given n k m
-      → Place order n → Place order m
-  place_moved k m may move (Inside h) = Inside (record {
+  place_moved : (k : Kind) (m : ModelNode) → (k ≡ Pays → n.at.view ≤ n.at.committed)
+      → May true k → Move order given n k m → Place order n → Place order m
+  place_moved k m synced may move (Inside h) = Inside (record {
     connected = phase_moved order given true n k m may move ∙ h.connected;
     in_step = in_step_moved order given true n k m may move h.in_step;
-    keeps = subst (AllKeep order) (sym (move_grows order given n k m move).member) h.keeps;
+    keeps = λ j e from there.
+        subst (λ x. Keeps x e) (sym (move_grows order given n k m move).member)
+        (h.keeps j e (subst (λ v. v ≤ j + 1) (view_moved order given n k m move) from) there);
   })
-  place_moved k m may move (Outside h) = Outside (left_moved order given n h k m may move)
+  place_moved k m synced may move (Entering h) =
+      Entering (joining_moved order given n h k m synced may move)
+  place_moved k m synced may move (Outside h) = Outside (left_moved order given n h k m may move)
 
--- an event that is taken and not certified keeps the member
+-- an event from its view on that is taken and not certified keeps the member
 keeps_next : (order : List Event) (n : ModelNode) → n.at.certified ≤ n.at.taken → Place order n
-    → (e : Event) → n.at.certified == n.at.taken ≡ false → slice_get order n.at.certified ≡ Some e
-    → Keeps n.at.member e
-keeps_next order n fits (Inside h) e more there = h.keeps n.at.certified e there
-keeps_next order n fits (Outside h) e more there =
-    h.keeps n.at.certified e (less_from n.at.certified n.at.taken fits more) there
+    → (e : Event) → n.at.view ≤ n.at.certified → n.at.certified == n.at.taken ≡ false
+    → slice_get order n.at.certified ≡ Some e → Keeps n.at.member e
+keeps_next order n fits (Inside h) e up more there =
+    h.keeps n.at.certified e (omega (arith, up)) there
+keeps_next order n fits (Entering h) e up more there =
+    h.keeps n.at.certified e (omega (arith, up)) there
+keeps_next order n fits (Outside h) e up more there =
+    h.keeps n.at.certified e (omega (arith, up))
+    (less_from n.at.certified n.at.taken fits more) there
 
 pub stayed : (order : List Event) (n : ModelNode) → n.at.phase ≡ phase.Connected → Place order n
     → HasStayed order n
 stayed order n is (Inside h) = h
+stayed order n is (Entering h) =
+    absurd (true≢false (ap is_joining (sym h.joining ∙ is)))
 stayed order n is (Outside h) = absurd (true≢false (sym (ap is_left (sym is ∙ h.left))))
 
 module _ (order : List Event) (member : ℕ) (given : Type 0) (g : given) where
@@ -127,7 +145,7 @@ module _ (order : List Event) (member : ℕ) (given : Type 0) (g : given) where
     facts = facts_moved order given g n k m move h.facts;
     stage = stage_moved order n given g k m synced
         (keeps_next order n h.facts.in_order.certified_fits h.place) may move h.facts h.stage;
-    place = place_moved order given n k m may move h.place;
+    place = place_moved order given n k m synced may move h.place;
   }
 
   pub quiet_not : Quiet ≡ Pays → ⊥

@@ -1,11 +1,11 @@
 -- The order grows by events of others, or by the front of the node's outbox: what holds of the node
 -- holds over the longer order, and all write sets of its member are decided there too.
-use Rattle.std.proofs.Common.{◌≡◌, ℕ, zero, suc, ◌≤◌, ◌<◌, Bool, true, false, cond, List, [], ◌∷◌, ◌++◌, length, Some, None, refl, ap, sym, subst, ◌∙◌, arith, drop, append-nil, ltb-true, ltb-false, eq-eqb, true≢false}
+use Rattle.std.proofs.Common.{◌≡◌, ℕ, zero, suc, ◌+◌, ◌≤◌, ◌<◌, Bool, true, false, cond, List, [], ◌∷◌, ◌++◌, length, Some, None, refl, ap, sym, subst, ◌∙◌, arith, drop, append-nil, ltb-true, ltb-false, eq-eqb, true≢false}
 use Rattle.std.specs.Prelude.{map, slice_get, nat_lt, ◌==◌}
 use Rattle.std.specs.List.{AllByRecursion, filter_map, cons_option, list_any}
 use Rattle.std.proofs.lemmas.List.{append_assoc, drop-append-le}
 use Rattle.std.proofs.lemmas.List.Elements.{filter_map-append}
-use Rattle.std.proofs.lemmas.Option.{same_Some}
+use Rattle.std.proofs.lemmas.Option.{same_Some, slice_get_within}
 use Rattle.order_event.specs.declared.event.Event.{Event}
 use Rattle.order_event.specs.declared.event.Event.TheVariants as event
 use Rattle.order_event.specs.declared.event.Message.{Message}
@@ -25,11 +25,11 @@ use Rattle.node_laws.proofs.FactsMoved.{facts_moved}
 use Rattle.node_laws.specs.InStep.{message_of, messages_behind, IsInStep}
 use Rattle.node_laws.proofs.InStep.{own_messages, in_step_ordered}
 use Rattle.node_laws.proofs.SetLists.{all_each}
-use Rattle.course_laws.specs.Ordered.{pending_sets, seen_in, seen_ahead, Entered, Keeps, Stage, Early, Since}
+use Rattle.course_laws.specs.Ordered.{pending_sets, seen_in, seen_ahead, IsNewcomer, Entered, Keeps, Stage, Early, Since}
 use Rattle.course_laws.specs.Courses.{IsOfOthers}
 use Rattle.course_laws.specs.Laws.{IsByConflict, OwnAreDecided, NoneBehind}
 use Rattle.course_laws.proofs.PendingSets.{within_order}
-use Rattle.course_laws.proofs.Following.{Follows, AllKeep, Place, Inside, Outside, stayed}
+use Rattle.course_laws.proofs.Following.{Follows, AllKeep, Place, Inside, Entering, Outside, stayed}
 use Rattle.course_laws.proofs.Ahead.{DecidedAt, decided_ahead}
 
 -- ---- lists
@@ -45,19 +45,44 @@ front_some [] ys k x there = cc
 front_some (y ∷ xs) ys zero x there = there
 front_some (y ∷ xs) ys (suc k) x there = front_some xs ys k x there
 
-all_at : {A : Type 0} (P : A → Type 0) (xs : List A) → AllByRecursion P xs → (k : ℕ) (x : A)
+pub all_at : {A : Type 0} (P : A → Type 0) (xs : List A) → AllByRecursion P xs → (k : ℕ) (x : A)
     → slice_get xs k ≡ Some x → P x
 all_at P [] all k x there = cc
 all_at P (y ∷ xs) all zero x there = subst P (same_Some y x there) all.0
 all_at P (y ∷ xs) all (suc k) x there = all_at P xs all.1 k x there
 
-both_at : {A : Type 0} (P : A → Type 0) (xs ys : List A)
-    → ((k : ℕ) (x : A) → slice_get xs k ≡ Some x → P x) → AllByRecursion P ys
-    → (k : ℕ) (x : A) → slice_get (xs ++ ys) k ≡ Some x → P x
-both_at P [] ys one all k x there = all_at P ys all k x there
-both_at P (y ∷ xs) ys one all zero x there = one zero x there
-both_at P (y ∷ xs) ys one all (suc k) x there =
-    both_at P xs ys (λ j z is. one (suc j) z is) all k x there
+-- an event of the longer order is one of the order, or of what is behind it
+pub data Where {A : Type 0} (xs ys : List A) (k : ℕ) (x : A) : Type 0 where
+  Before : k < length xs → slice_get xs k ≡ Some x → Where xs ys k x
+  Behind : (j : ℕ) → length xs ≤ k → slice_get ys j ≡ Some x → Where xs ys k x
+
+where_later : {A : Type 0} (y : A) (xs ys : List A) (k : ℕ) (x : A) → Where xs ys k x
+    → Where (y ∷ xs) ys (suc k) x
+where_later y xs ys k x (Before below there) = Before (omega (arith, below)) there
+where_later y xs ys k x (Behind j above there) = Behind j (omega (arith, above)) there
+
+pub where_is : {A : Type 0} (xs ys : List A) (k : ℕ) (x : A) → slice_get (xs ++ ys) k ≡ Some x
+    → Where xs ys k x
+where_is [] ys k x there = Behind k (omega arith) there
+where_is (y ∷ xs) ys zero x there = Before (omega arith) there
+where_is (y ∷ xs) ys (suc k) x there = where_later y xs ys k x (where_is xs ys k x there)
+
+-- a member enters by the view by which it did
+newcomer_grown : (order more : List Event) (member view : ℕ) → IsNewcomer order member view
+    → IsNewcomer (order ++ more) member view
+newcomer_grown order more member view h =
+    let within = slice_get_within order h.before (event.View h.version h.members) h.opens in
+    record {
+      before = h.before;
+      number = h.number;
+      version = h.version;
+      members = h.members;
+      opens = front_some order more h.before (event.View h.version h.members) h.opens;
+      has = h.has;
+      unaware = λ j e below there.
+          h.unaware j e below
+          (sym (front_get order more j (omega (arith, below, within))) ∙ there);
+    }
 
 -- ---- what is ahead, and the fold so far
 -- the front of the outbox is in the longer order
@@ -95,16 +120,12 @@ module _ (order more : List Event) (n : ModelNode) (front back : List Message)
 
   pub stage_grown : Stage order n → Stage longer now
   stage_grown (Early h) = Early (record {
-    none = h.none;
-    first = h.first;
+    before = h.before;
+    newcomer = newcomer_grown order more n.at.member n.at.view h.newcomer;
     positive = h.positive;
     idle = h.idle;
     nothing = same_pending ∙ h.nothing;
-    unseen = same_seen ∙ h.unseen;
-    version = h.version;
-    members = h.members;
-    opens = front_some order more 0 (event.View h.version h.members) h.opens;
-    has = h.has;
+    silent = same_ahead ∙ h.silent;
   })
   stage_grown (Since h) =
       Since (subst (λ s. Entered s n.at.member n.at.view n.at.begin n.at.serial n.at.committed
@@ -147,11 +168,23 @@ none_sent member (e ∷ events) all =
     ap (λ o. cons_option o (filter_map (message_of member) events)) all.0
     ∙ none_sent member events all.1
 
-pub others_all_keep : (order : List Event) (member : ℕ) (events : List Event)
-    → AllByRecursion (IsOfOthers member false) events → AllKeep order member
-    → AllKeep (order ++ events) member
-others_all_keep order member events all keeps =
-    both_at (Keeps member) order events keeps
+all_keep_by : (order events : List Event) (member view : ℕ) → AllByRecursion (Keeps member) events
+    → AllKeep order member view → (j : ℕ) (e : Event) → view ≤ j + 1 → Where order events j e
+    → Keeps member e
+all_keep_by order events member view all keeps j e from (Before below there) = keeps j e from there
+all_keep_by order events member view all keeps j e from (Behind k above there) =
+    all_at (Keeps member) events all k e there
+
+all_keep : (order events : List Event) (member view : ℕ) → AllByRecursion (Keeps member) events
+    → AllKeep order member view → AllKeep (order ++ events) member view
+all_keep order events member view all keeps j e from there =
+    all_keep_by order events member view all keeps j e from (where_is order events j e there)
+
+pub others_all_keep : (order : List Event) (member view : ℕ) (events : List Event)
+    → AllByRecursion (IsOfOthers member false) events → AllKeep order member view
+    → AllKeep (order ++ events) member view
+others_all_keep order member view events all =
+    all_keep order events member view
     (all_each (IsOfOthers member false) (Keeps member) (others_keep member) events all)
 
 -- the order grows by events of others, and nothing is sent
@@ -178,15 +211,25 @@ module _ (order : List Event) (n : ModelNode) (events : List Event)
   others_place none all (Inside h) = Inside (record {
     connected = h.connected;
     in_step = in_step_grown none h.in_step;
-    keeps = others_all_keep order n.at.member events
+    keeps = others_all_keep order n.at.member n.at.view events
         (subst (λ b. AllByRecursion (IsOfOthers n.at.member b) events) (ap is_left h.connected)
+        all) h.keeps;
+  })
+  others_place none all (Entering h) = Entering (record {
+    joining = h.joining;
+    rest = h.rest;
+    behind = h.behind;
+    in_step = in_step_grown none h.in_step;
+    keeps = others_all_keep order n.at.member n.at.view events
+        (subst (λ b. AllByRecursion (IsOfOthers n.at.member b) events) (ap is_left h.joining)
         all) h.keeps;
   })
   others_place none all (Outside h) = Outside (record {
     left = h.left;
     cleared = h.cleared;
-    keeps = λ j e below there.
-        h.keeps j e below (sym (front_get order events j (omega (arith, below, inside))) ∙ there);
+    keeps = λ j e from below there.
+        h.keeps j e from below
+        (sym (front_get order events j (omega (arith, below, inside))) ∙ there);
   })
 
 pub others_follows : (order : List Event) (member : ℕ) (n : ModelNode) (events : List Event)
@@ -208,10 +251,10 @@ own_keep member [] = tt
 own_keep member (message.Write body ∷ front) = (tt, own_keep member front)
 own_keep member (message.Report number ∷ front) = (tt, own_keep member front)
 
-pub own_all_keep : (order : List Event) (member : ℕ) (front : List Message)
-    → AllKeep order member → AllKeep (order ++ map (event_of member) front) member
-own_all_keep order member front keeps =
-    both_at (Keeps member) order (map (event_of member) front) keeps (own_keep member front)
+pub own_all_keep : (order : List Event) (member view : ℕ) (front : List Message)
+    → AllKeep order member view → AllKeep (order ++ map (event_of member) front) member view
+own_all_keep order member view front =
+    all_keep order (map (event_of member) front) member view (own_keep member front)
 
 pub own_follows : (order : List Event) (member : ℕ) (n : ModelNode) (front back : List Message)
     → n.outbox ≡ front ++ back → n.at.phase ≡ phase.Connected → Follows order member n
@@ -233,30 +276,13 @@ own_follows order member n front back is connected h =
         in_step = subst (λ k. IsInStep (order ++ map (event_of k) front)
             (with_ordered n front back)) h.home
             (in_step_ordered order n h.facts.in_order.taken_fits s.in_step front back);
-        keeps = subst (λ k. AllKeep (order ++ map (event_of k) front) n.at.member) h.home
-            (own_all_keep order n.at.member front s.keeps);
+        keeps = subst (λ k. AllKeep (order ++ map (event_of k) front) n.at.member n.at.view) h.home
+            (own_all_keep order n.at.member n.at.view front s.keeps);
       });
     }
 
--- ---- what stands behind a longer order
--- an event of the longer order is one of the order, or of what is behind it
-data Where {A : Type 0} (xs ys : List A) (k : ℕ) (x : A) : Type 0 where
-  Before : k < length xs → slice_get xs k ≡ Some x → Where xs ys k x
-  Behind : (j : ℕ) → length xs ≤ k → slice_get ys j ≡ Some x → Where xs ys k x
-
-where_later : {A : Type 0} (y : A) (xs ys : List A) (k : ℕ) (x : A) → Where xs ys k x
-    → Where (y ∷ xs) ys (suc k) x
-where_later y xs ys k x (Before below there) = Before (omega (arith, below)) there
-where_later y xs ys k x (Behind j above there) = Behind j (omega (arith, above)) there
-
-where_is : {A : Type 0} (xs ys : List A) (k : ℕ) (x : A) → slice_get (xs ++ ys) k ≡ Some x
-    → Where xs ys k x
-where_is [] ys k x there = Behind k (omega arith) there
-where_is (y ∷ xs) ys zero x there = Before (omega arith) there
-where_is (y ∷ xs) ys (suc k) x there = where_later y xs ys k x (where_is xs ys k x there)
-
 -- ---- the write sets of the member
-own_is : (member : ℕ) (body : List ℕ)
+pub own_is : (member : ℕ) (body : List ℕ)
     → message_of member (event.Write member body) ≡ Some (message.Write body)
 own_is member body =
     ap (λ b. cond b (Some (message.Write body)) None) (eq-eqb member member refl)
@@ -313,26 +339,27 @@ module _ (order more : List Event) (member : ℕ) where
 
 -- ---- behind a view without the member
 -- where all events keep it there is none
-pub none_behind_kept : (order : List Event) (member : ℕ) → AllKeep order member
-    → NoneBehind order member
-none_behind_kept order member keeps place behind version members e there without later at =
-    absurd (true≢false (sym (keeps place (event.View version members) there) ∙ without))
+pub none_behind_kept : (order : List Event) (member view : ℕ) → AllKeep order member view
+    → NoneBehind order member view
+none_behind_kept order member view keeps place behind version members e from there without later
+    at =
+    absurd (true≢false (sym (keeps place (event.View version members) from there) ∙ without))
 
-module _ (order more : List Event) (member : ℕ) (were : NoneBehind order member)
+module _ (order more : List Event) (member view : ℕ) (were : NoneBehind order member view)
     (silent : AreSilent member more) (version : ℕ) (members : List ℕ)
     (without : list_any (λ k. k == member) members ≡ false) where
-  behind_where : (place behind : ℕ) (e : Event)
+  behind_where : (place behind : ℕ) (e : Event) → view ≤ place + 1
       → slice_get (order ++ more) place ≡ Some (event.View version members) → place < behind
       → Where order more behind e → message_of member e ≡ None
-  behind_where place behind e there later (Before first at) =
-      were place behind version members e
+  behind_where place behind e from there later (Before first at) =
+      were place behind version members e from
       (sym (front_get order more place (omega (arith, first, later))) ∙ there) without later at
-  behind_where place behind e there later (Behind j above at) =
+  behind_where place behind e from there later (Behind j above at) =
       all_at (λ (x : Event). message_of member x ≡ None) more silent j e at
 
-pub none_behind_grown : (order more : List Event) (member : ℕ) → NoneBehind order member
-    → AreSilent member more → NoneBehind (order ++ more) member
-none_behind_grown order more member were silent place behind version members e there without later
-    at =
-    behind_where order more member were silent version members without place behind e there later
-    (where_is order more behind e at)
+pub none_behind_grown : (order more : List Event) (member view : ℕ) → NoneBehind order member view
+    → AreSilent member more → NoneBehind (order ++ more) member view
+none_behind_grown order more member view were silent place behind version members e from there
+    without later at =
+    behind_where order more member view were silent version members without place behind e from
+    there later (where_is order more behind e at)

@@ -1,5 +1,5 @@
--- What is kept of a node gives its laws, and so they hold at the end of every course from a start.
-use Rattle.std.proofs.Common.{◌≡◌, ℕ, zero, suc, ◌+◌, true, false, cond, List, [], ◌∷◌, ◌++◌, length, Some, refl, ap, sym, subst, ◌∙◌, arith, true≢false, drop, take}
+-- What is kept of a node gives its laws.
+use Rattle.std.proofs.Common.{◌≡◌, ℕ, zero, suc, true, false, cond, List, [], ◌∷◌, ◌++◌, length, Some, refl, ap, sym, subst, ◌∙◌, arith, true≢false, drop, take}
 use Rattle.std.specs.Prelude.{slice_get}
 use Rattle.std.specs.List.{filter_map}
 use Rattle.std.proofs.lemmas.Option.{same_Some}
@@ -17,28 +17,26 @@ use Rattle.client_trx.specs.declared.status.Status.TheVariants as status
 use Rattle.node_meaning.specs.Node.{ModelNode, is_left, is_connected}
 use Rattle.node_meaning.specs.Steps.{take_step, take_event}
 use Rattle.node_meaning.specs.Facts.{IsUndecided, HasFailed, Alone, One, Lost, StandsBy, IsFragmentOf, IsCommitOf, sets_of, own_body, sent_body, HasPassed}
-use Rattle.node_meaning.specs.declared.progress.Phase.TheVariants as phase
 use Rattle.node_laws.specs.InStep.{IsInStep, IsCleared}
 use Rattle.course_laws.specs.Ordered.{pending_sets}
-use Rattle.course_laws.specs.Courses.{course, start_course}
-use Rattle.course_laws.specs.Laws.{IsByConflict, OwnAreDecided, NoneFailed, NodeLaws, CoursesAreLawful, NoneBehind, IsViewed, EndsIdle, SentStandOnce, NoSplit, TookItsViews}
+use Rattle.course_laws.specs.Laws.{IsByConflict, OwnAreDecided, NoneFailed, NodeLaws, NoneBehind, IsViewed, EndsIdle, SentStandOnce, NoSplit, TookItsViews}
 use Rattle.course_laws.proofs.Placing.{conflict_not}
 use Rattle.course_laws.proofs.PendingSets.{sets_lined}
 use Rattle.course_laws.proofs.Taking.{no_split, nothing_not}
-use Rattle.course_laws.proofs.Following.{Place, Inside, Outside}
-use Rattle.course_laws.proofs.Viewed.{course_viewed}
-use Rattle.course_laws.proofs.CourseLaws.{Kept, is_numbered, from_start}
+use Rattle.course_laws.specs.Places.{Place, Inside, Entering, Outside}
+use Rattle.course_laws.specs.Kept.{Kept}
 
-dropped : (k : ℕ) (order : List Event) → drop k (take k order) ≡ []
+pub dropped : (k : ℕ) (order : List Event) → drop k (take k order) ≡ []
 dropped zero order = refl
 dropped (suc k) [] = refl
 dropped (suc k) (e ∷ order) = dropped k order
 
-left_whole : (order : List Event) (n : ModelNode) → n.at.phase ≡ phase.Left → NoSplit order n
+-- a node that is not connected takes nothing
+out_whole : (order : List Event) (n : ModelNode) → is_connected n.at.phase ≡ false → NoSplit order n
 unfolding take_step
-left_whole order n left split =
-    nothing_not (sym (ap (λ p. (cond (is_connected p) (take_event n (slice_get order n.at.taken))
-    (answer.Nothing, n)).0) left) ∙ split)
+out_whole order n out split =
+    nothing_not (sym (ap (λ b. (cond b (take_event n (slice_get order n.at.taken))
+    (answer.Nothing, n)).0) out) ∙ split)
 
 module _ (member most : ℕ) (order : List Event) (n : ModelNode) (h : Kept member most order n) where
   pub none_failed : NoneFailed order n
@@ -79,21 +77,26 @@ module _ (member most : ℕ) (order : List Event) (n : ModelNode) (h : Kept memb
   -- ---- in its group or left
   whole_by : Place order n → NoSplit order n
   whole_by (Inside s) = no_split order n s.in_step s.connected
-  whole_by (Outside g) = left_whole order n g.left
+  whole_by (Entering s) = out_whole order n (ap is_connected s.joining)
+  whole_by (Outside g) = out_whole order n (ap is_connected g.left)
 
   in_step_by : Place order n → is_left n.at.phase ≡ false → IsInStep order n
   in_step_by (Inside s) stays = s.in_step
+  in_step_by (Entering s) stays = s.in_step
   in_step_by (Outside g) stays = absurd (true≢false (sym (ap is_left g.left) ∙ stays))
 
   cleared_by : Place order n → is_left n.at.phase ≡ true → IsCleared n.ordered n.outbox n.live
   cleared_by (Inside s) left = absurd (true≢false (sym left ∙ ap is_left s.connected))
+  cleared_by (Entering s) left = absurd (true≢false (sym left ∙ ap is_left s.joining))
   cleared_by (Outside g) left = g.cleared
 
   took_by : Place order n → TookItsViews order n
-  took_by (Inside s) place version members below there =
-      s.keeps place (event.View version members) there
-  took_by (Outside g) place version members below there =
-      g.keeps place (event.View version members) below there
+  took_by (Inside s) place version members from below there =
+      s.keeps place (event.View version members) from there
+  took_by (Entering s) place version members from below there =
+      s.keeps place (event.View version members) from there
+  took_by (Outside g) place version members from below there =
+      g.keeps place (event.View version members) from below there
 
   -- ---- a node that left, once it has committed all that it took
   module _ (cleared : IsCleared n.ordered n.outbox n.live) (all : n.at.taken ≡ n.at.committed) where
@@ -146,17 +149,8 @@ module _ (member most : ℕ) (order : List Event) (n : ModelNode) (h : Kept memb
     once = once;
     none_failed = none_failed;
     viewed = viewed;
-    none_behind = subst (NoneBehind order) (sym h.follows.home) h.none_behind;
+    none_behind = subst (λ k. NoneBehind order k n.at.view) (sym h.follows.home) h.none_behind;
     cleared = cleared_by h.follows.place;
     idle = ends_idle;
     took = took_by h.follows.place;
   }
-
--- the laws hold at the end of every course from a start
-pub courses_are_lawful : CoursesAreLawful
-courses_are_lawful nodes member id happens above below small fits few short =
-    let c = course (start_course nodes id member) happens in
-    kept_laws member (1 + length happens) c.order c.node
-    (from_start nodes member id happens above below small fits few short)
-    (course_viewed (start_course nodes id member) happens fits
-    (is_numbered nodes member above below))

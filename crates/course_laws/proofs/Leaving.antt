@@ -18,11 +18,11 @@ use Rattle.node_meaning.specs.Node.{ModelNode}
 use Rattle.node_meaning.specs.Leaving.{departed, sessions_left, left_node}
 use Rattle.node_meaning.specs.Facts.{own_body, sent_body}
 use Rattle.node_laws.proofs.LeftSets.{all_front, serials_front, front_none}
-use Rattle.node_laws.proofs.Leaving.{left_only, left_moves, facts_left}
+use Rattle.node_laws.proofs.Leaving.{left_moves, facts_left}
 use Rattle.node_laws.specs.InStep.{messages_behind}
 use Rattle.node_laws.proofs.Cleared.{left_cleared}
 use Rattle.course_laws.specs.Ordered.{pending_sets, seen_in, seen_ahead, Rises, AllEnd, IsPlaced, Entered, Stage, Early, Since}
-use Rattle.course_laws.proofs.Following.{Follows, HasStayed, Outside, stayed, still_follows}
+use Rattle.course_laws.proofs.Following.{Follows, FirstKeep, Place, Inside, Entering, Outside, still_follows}
 
 -- ---- fronts of lists
 rises_less : (low : ℕ) (ks : List ℕ) (high : ℕ) → Rises low ks high → low ≤ high
@@ -47,6 +47,7 @@ entered_front : (s : FoldState) (m v b serial p : ℕ) (live : FiniteMap nat_cmp
     → Entered s m v b serial p live (a ++ more) (seen ++ later)
     → Entered s m v b serial p live a seen
 entered_front s m v b serial p live a more seen later h = record {
+  entered = h.entered;
   standing = h.standing;
   is_member = h.is_member;
   floor = h.floor;
@@ -85,17 +86,12 @@ module _ (order : List Event) (n : ModelNode) where
 
   departed_stage : Stage order n → Stage order (departed n)
   departed_stage (Early h) = Early (record {
-    none = h.none;
-    first = h.first;
+    before = h.before;
+    newcomer = h.newcomer;
     positive = h.positive;
     idle = h.idle;
     nothing = append-nil taken_bodies ∙ front_none taken_bodies queued h.nothing;
-    unseen = front_none (seen_ahead order (departed n)) (filter_map seen_in n.outbox)
-        (sym seen_parts ∙ h.unseen);
-    version = h.version;
-    members = h.members;
-    opens = h.opens;
-    has = h.has;
+    silent = append-nil behind ∙ front_none behind n.outbox h.silent;
   })
   departed_stage (Since h) =
       Since (entered_front (state_at order n.at.certified) n.at.member n.at.view n.at.begin
@@ -107,21 +103,26 @@ module _ (order : List Event) (n : ModelNode) where
       (subst (Entered (state_at order n.at.certified) n.at.member n.at.view n.at.begin
       n.at.serial n.at.committed n.live (pending_sets order n)) seen_parts h)))
 
--- a node in its group leaves it
-pub left_follows : (order : List Event) (member : ℕ) (n : ModelNode) → HasStayed order n
-    → Follows order member n → Follows order member (left_node n)
+-- all that it took keeps its member
+took_keeps : (order : List Event) (n : ModelNode) → Place order n
+    → FirstKeep order n.at.member n.at.view n.at.taken
+took_keeps order n (Inside h) j e from below there = h.keeps j e from there
+took_keeps order n (Entering h) j e from below there = h.keeps j e from there
+took_keeps order n (Outside h) j e from below there = h.keeps j e from below there
+
+-- a node leaves its group
+pub left_follows : (order : List Event) (member : ℕ) (n : ModelNode) → Follows order member n
+    → Follows order member (left_node n)
 unfolding left_node
-left_follows order member n s h =
+left_follows order member n h =
     let ended = still_follows order member (Unit {0}) tt n (sessions_left n)
-    (left_moves n order (Unit {0}) true) h in
-    let connected = ap (λ (m : ModelNode). m.at.phase) (left_only n) ∙ s.connected in
-    let stays = stayed order (sessions_left n) connected ended.place in record {
+    (left_moves n order (Unit {0}) true) h in record {
       home = ended.home;
       facts = facts_left n order h.facts;
       stage = departed_stage order (sessions_left n) ended.stage;
       place = Outside (record {
         left = refl;
         cleared = left_cleared n;
-        keeps = λ j e below there. stays.keeps j e there;
+        keeps = took_keeps order (sessions_left n) ended.place;
       });
     }

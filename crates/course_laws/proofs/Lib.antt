@@ -4,6 +4,8 @@ pub mod NextEvent
 pub mod PendingSets
 pub mod Sending
 pub mod Certifying
+pub mod Newcoming
+pub mod LastMember
 pub mod StageMoved
 pub mod Taking
 pub mod Following
@@ -11,7 +13,12 @@ pub mod Ahead
 pub mod Growing
 pub mod Leaving
 pub mod Viewed
-pub mod CourseLaws
 pub mod KeptLaws
+pub mod Joining
+pub mod CourseLaws
+pub mod CourseSteps
+pub mod CourseEnds
+pub mod RunSteps
+pub mod RunLaws
 pub mod Runs
 pub mod Answers

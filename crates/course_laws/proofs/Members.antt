@@ -29,11 +29,11 @@ use Rattle.node_meaning.proofs.EntryLaws.{in_from_get}
 use Rattle.node_laws.proofs.SetLists.{equal}
 use Rattle.course_laws.specs.Laws.{IsByConflict}
 
-members-after : (s : FoldState) (e : Event) → (after s e).members ≡ (changed_by s e).members
+pub members-after : (s : FoldState) (e : Event) → (after s e).members ≡ (changed_by s e).members
 unfolding after
 members-after s e = refl
 
-open-after : (s : FoldState) (e : Event) → (after s e).open_trx ≡ (changed_by s e).open_trx
+pub open-after : (s : FoldState) (e : Event) → (after s e).open_trx ≡ (changed_by s e).open_trx
 unfolding after
 open-after s e = refl
 

@@ -21,6 +21,7 @@ use Rattle.cert_meaning.specs.State.{FoldState, fragments_of, last_seen_of, whol
 use Rattle.cert_meaning.specs.Verdict as rules
 use Rattle.cert_meaning.specs.Verdict.{trx_of, is_rollback, is_broken, is_start}
 use Rattle.cert_meaning.specs.Fold.{Adds, effect_of, judged_as, judged_write, after, fragment_by}
+use Rattle.cert_meaning.proofs.FoldLaws.{number-after}
 use Rattle.client_trx.specs.Live.{Live}
 use Rattle.node_meaning.specs.Facts.{SerialsRise, IsOurs, IsFragmentOf}
 use Rattle.node_laws.proofs.SetLists.{unequal}
@@ -78,6 +79,7 @@ module _ (s : FoldState) (e : Event) (m v b serial p : ℕ) (live : FiniteMap na
 
   pub beside_entered : AllByRecursion (IsOurs m b p) sets → Entered r m v b serial p live sets left
   beside_entered ours = record {
+    entered = omega (arith, h.entered, number-after s e);
     standing = now;
     is_member = stands;
     floor = floor_below s e m now stands;
@@ -205,6 +207,7 @@ module _ (s : FoldState) (m v b serial p : ℕ) (live : FiniteMap nat_cmp Live) 
       → ((se : ℕ) (t : Live) → get now se ≡ Some t → GoesOn next v p t)
       → Entered next m v b serial p now rest left
   head_entered now each = record {
+    entered = omega (arith, h.entered, number-after s (Write m body));
     standing = st;
     is_member = stands;
     floor = floor_below s (Write m body) m st stands;

@@ -15,7 +15,7 @@ use Rattle.node_laws.proofs.Moves.{with_certified}
 use Rattle.node_laws.proofs.Heads.{IsSplit, Split, split}
 use Rattle.node_laws.specs.InStep.{message_of, messages_behind}
 use Rattle.node_laws.proofs.SentMoved.{certifies_pending}
-use Rattle.course_laws.specs.Ordered.{pending_sets, seen_in, seen_ahead}
+use Rattle.course_laws.specs.Ordered.{pending_sets, seen_in, messages_ahead, seen_ahead}
 
 -- what bodies spell
 some_back : (bodies : List (List ℕ)) (sets : List WriteSet)
@@ -33,17 +33,24 @@ module _ (order : List Event) (n : ModelNode) where
   abbrev c : ℕ
   c = n.at.certified
 
-  -- what the member's messages ahead had seen, where the next event is of such a message or none
+  -- the member's messages ahead, where the next event is of such a message or none
+  pub ahead_next : (e : Event) (o : Option Message) → slice_get order c ≡ Some e
+      → message_of n.at.member e ≡ o
+      → messages_ahead order n
+      ≡ cons_option o (messages_behind n.at.member (c + 1) order) ++ n.outbox
+  ahead_next e o there is =
+      let m = n.at.member in
+      let left = messages_behind n.at.member (c + 1) order in
+      ap (λ events. filter_map (message_of m) events ++ n.outbox)
+      (drop_one order c e there ∙ ap (λ k. e ∷ drop k order) (sym (add-one c)))
+      ∙ ap (λ x. cons_option x left ++ n.outbox) is
+
+  -- and what they had seen
   pub seen_next : (e : Event) (o : Option Message) → slice_get order c ≡ Some e
       → message_of n.at.member e ≡ o
       → seen_ahead order n ≡ filter_map seen_in
       (cons_option o (messages_behind n.at.member (c + 1) order) ++ n.outbox)
-  seen_next e o there is =
-      let m = n.at.member in
-      let left = messages_behind n.at.member (c + 1) order in
-      ap (λ events. filter_map seen_in (filter_map (message_of m) events ++ n.outbox))
-      (drop_one order c e there ∙ ap (λ k. e ∷ drop k order) (sym (add-one c)))
-      ∙ ap (λ x. filter_map seen_in (cons_option x left ++ n.outbox)) is
+  seen_next e o there is = ap (filter_map seen_in) (ahead_next e o there is)
 
 module _ (order : List Event) (n : ModelNode) (f : Facts order n) where
   pub sets_lined : Lined order n.at.member n.at.begin n.at.serial n.at.committed n.at.certified

@@ -63,6 +63,7 @@ module _ (order : List Event) (n : ModelNode) (f : Facts order n) (h : OrderedFa
       → ((se : ℕ) (t : Live) → get now se ≡ Some t → Goes t)
       → Entered s m n.at.view begin n.at.serial p now sets seen
   over begin later now each = record {
+    entered = h.entered;
     standing = h.standing;
     is_member = h.is_member;
     floor = h.floor;
@@ -138,6 +139,7 @@ module _ (order : List Event) (n : ModelNode) (f : Facts order n) (h : OrderedFa
       (filter_map decoded bodies) (seen ++ p ∷ []))
       (pending-reported order m n.at.certified n.at.taken n.ordered n.outbox p)
       (record {
+        entered = h.entered;
         standing = h.standing;
         is_member = h.is_member;
         floor = h.floor;
@@ -155,6 +157,7 @@ module _ (order : List Event) (n : ModelNode) (f : Facts order n) (h : OrderedFa
       → ((se : ℕ) (t : Live) → get now se ≡ Some t → Goes t)
       → Entered s m n.at.view n.at.begin (n.at.serial + 1) p now (sets ++ w ∷ []) (seen ++ p ∷ [])
   pushed w number synced placed ends now each = record {
+    entered = h.entered;
     standing = h.standing;
     is_member = h.is_member;
     floor = h.floor;

@@ -1,32 +1,31 @@
--- Every move keeps the stage of a node: that it has certified nothing, has nothing live and has
--- sent nothing, or what holds over the order so far.
-use Rattle.std.proofs.Common.{◌≡◌, ℕ, ◌+◌, ◌≤◌, true, List, [], length, Some, None, refl, ap, sym, subst, ◌∙◌, arith, false}
-use Rattle.std.specs.Prelude.{◌==◌, max, slice_get}
-use Rattle.std.specs.List.{filter_map, list_any}
+-- Every move keeps the stage of a node: that it has not certified its member's view, has nothing
+-- live and has sent nothing, or what holds over the order so far.
+use Rattle.std.proofs.Common.{◌≡◌, ℕ, ◌+◌, ◌≤◌, ◌<◌, Bool, true, false, cond, List, [], ◌++◌, length, Option, Some, None, refl, ap, sym, subst, ◌∙◌, arith, eq-eqb, ltb-true, ltb-false}
+use Rattle.std.specs.Prelude.{◌==◌, max, nat_lt, slice_get}
+use Rattle.std.specs.List.{filter_map, cons_option}
 use Rattle.std.specs.Ordering.{nat_cmp}
-use Rattle.std.proofs.lemmas.Option.{same_Some}
-use Rattle.finite_map.specs.FiniteMap.{FiniteMap, get, remove, get-empty}
+use Rattle.std.proofs.lemmas.Option.{same_Some, slice_get_within}
+use Rattle.finite_map.specs.FiniteMap.{FiniteMap, get, remove}
 use Rattle.finite_map.proofs.Edits.{numbers, left}
-use Rattle.wsrep_base.specs.declared.ids.TrxId.{TrxId}
-use Rattle.wsrep_base.specs.Trx.{trx_cmp}
 use Rattle.order_event.specs.declared.event.Event.{Event}
 use Rattle.order_event.specs.declared.event.Event.TheVariants as event
+use Rattle.order_event.specs.declared.event.Message.TheVariants as message
 use Rattle.write_set.specs.Reading.{decoded}
-use Rattle.cert_meaning.specs.declared.members.Standing.{Standing}
-use Rattle.cert_meaning.specs.State.{FoldState, no_events}
-use Rattle.cert_meaning.specs.Fold.{after, state_at}
-use Rattle.cert_meaning.proofs.FoldLaws.{state_at-next}
+use Rattle.cert_meaning.specs.State.{FoldState}
+use Rattle.cert_meaning.specs.Fold.{state_at}
+use Rattle.cert_meaning.proofs.FoldLaws.{number-at}
 use Rattle.client_trx.specs.Live.{Live, with_status}
 use Rattle.node_meaning.specs.Node.{ModelNode}
 use Rattle.node_meaning.specs.Client.{extended}
-use Rattle.node_meaning.specs.Facts.{Facts, pending}
+use Rattle.node_meaning.specs.Facts.{Facts, own_body, pending}
+use Rattle.node_laws.specs.InStep.{message_of, messages_behind}
 use Rattle.node_laws.proofs.Moves.{Kind, Pays, Move, Begins, Extends, Streams, Sends, Ends, TakesBack, Unlocks, Reports, Orders, Leaves, Takes, Certifies, Passes, Fails, Advances, Commits, May, MayCertify, with_certified, ended_with}
 use Rattle.node_laws.proofs.Sendable.{due_is}
 use Rattle.node_laws.proofs.SentMoved.{takes_pending, certifies_pending}
-use Rattle.course_laws.specs.Ordered.{pending_sets, seen_ahead, GoesOn, Entered, OrderedFacts, Keeps, IsEarly, Stage, Early, Since}
-use Rattle.course_laws.proofs.Members.{kept_open, member_entered, floor_below}
+use Rattle.course_laws.specs.Ordered.{pending_sets, seen_in, messages_ahead, seen_ahead, GoesOn, Entered, OrderedFacts, Keeps, IsEarly, Stage, Early, Since}
 use Rattle.course_laws.proofs.Placing.{rises_higher}
-use Rattle.course_laws.proofs.PendingSets.{seen_next, within_order}
+use Rattle.course_laws.proofs.PendingSets.{ahead_next, within_order}
+use Rattle.course_laws.proofs.Newcoming.{newcomer_entered}
 use Rattle.course_laws.proofs.Sending.{put_entered, left_entered, begun_entered, resting, again, taken_back_entered, fragment_entered, commit_entered, report_entered, not_running}
 use Rattle.course_laws.proofs.Certifying.{certified_ordered, passes_ordered, fails_ordered}
 
@@ -44,6 +43,7 @@ module _ (order : List Event) (n : ModelNode) (h : OrderedFacts order n) where
       → Entered (state_at order n.at.certified) n.at.member n.at.view n.at.begin n.at.serial
       (n.at.committed + 1) now (pending_sets order n) (seen_ahead order n)
   committed_entered now were = record {
+    entered = h.entered;
     standing = h.standing;
     is_member = h.is_member;
     floor = h.floor;
@@ -111,83 +111,110 @@ module _ (order : List Event) (n : ModelNode) (f : Facts order n) (h : OrderedFa
   ordered_moved given g k m synced keeps may _ = h
 
 -- ---- before that
+none_rest : {X : Type 0} (o : Option X) (xs : List X) → cons_option o xs ≡ [] → xs ≡ []
+none_rest None xs is = is
+none_rest (Some x) xs is = cc
+
+none_later : {X : Type 0} (o : Option X) (xs ys : List X) → cons_option o xs ++ ys ≡ []
+    → xs ++ ys ≡ []
+none_later None xs ys is = is
+none_later (Some x) xs ys is = cc
+
 module _ (order : List Event) (n : ModelNode) (f : Facts order n)
     (h : IsEarly order n.at.member n.at.view n.at.certified n.at.serial n.live (pending order n)
-    (seen_ahead order n)) where
-  -- the first event is the view of its member
-  pub first_event : (e : Event) → slice_get order n.at.certified ≡ Some e
-      → e ≡ event.View h.version h.members
-  first_event e there = same_Some e (event.View h.version h.members)
-      (sym there ∙ ap (slice_get order) h.none ∙ h.opens)
+    (messages_ahead order n)) where
+  -- the next event is no write set of its member
+  pub no_write : (body : List ℕ)
+      → slice_get order n.at.certified ≡ Some (event.Write n.at.member body) → ⊥
+  no_write body there =
+      let behind = sym (ahead_next order n (event.Write n.at.member body)
+      (Some (message.Write body)) there
+      (ap (λ b. cond b (Some (message.Write body)) None)
+      (eq-eqb n.at.member n.at.member refl))) ∙ h.silent in
+      cc
 
-  abbrev viewed : FoldState
-  viewed = after no_events (event.View h.version h.members)
+  module _ (e : Event) (may : MayCertify order n e) where
+    nothing_next : pending order (with_certified n) ≡ []
+    nothing_next =
+        none_rest (own_body n.at.member e) (pending order (with_certified n))
+        (sym (certifies_pending order n f.in_order f.sent may.more e may.next) ∙ h.nothing)
 
-  abbrev st : Standing
-  st = record { report = 1; serial = 0 }
+    silent_next : messages_ahead order (with_certified n) ≡ []
+    silent_next =
+        none_later (message_of n.at.member e)
+        (messages_behind n.at.member (n.at.certified + 1) order) n.outbox
+        (sym (ahead_next order n e (message_of n.at.member e) may.next refl) ∙ h.silent)
 
-  stands : get viewed.members n.at.member ≡ Some st
-  unfolding no_events
-  stands = member_entered no_events h.version h.members n.at.member h.has
-      (get-empty nat_cmp n.at.member)
+    still_early : n.at.certified + 1 < n.at.view → Stage order (with_certified n)
+    still_early below = Early (record {
+      before = below;
+      newcomer = h.newcomer;
+      positive = h.positive;
+      idle = h.idle;
+      nothing = nothing_next;
+      silent = silent_next;
+    })
 
-  unopened : (trx : TrxId) → trx.member ≡ n.at.member → get viewed.open_trx trx ≡ None
-  unfolding no_events
-  unopened trx member =
-      kept_open no_events (event.View h.version h.members) trx
-      (ap (λ k. list_any (λ j. j == k) h.members) member ∙ h.has) ∙ get-empty trx_cmp trx
+    -- the view of its member is certified
+    module _ (last : n.at.view ≤ n.at.certified + 1) where
+      here : n.at.certified ≡ h.newcomer.before
+      here = let number = h.newcomer.number in omega (arith, last, h.before, number)
 
-  state_is : state_at order (n.at.certified + 1) ≡ viewed
-  unfolding state_at
-  state_is =
-      ap (λ k. state_at order (k + 1)) h.none
-      ∙ state_at-next order 0 (event.View h.version h.members) h.opens
+      abbrev view_event : Event
+      view_event = event.View h.newcomer.version h.newcomer.members
 
-  viewed_entered : Entered viewed n.at.member n.at.view n.at.begin n.at.serial n.at.committed
-      n.live [] []
-  viewed_entered = record {
-    standing = st;
-    is_member = stands;
-    floor = floor_below no_events (event.View h.version h.members) n.at.member st stands;
-    serials = h.positive;
-    rises = omega (arith, h.first);
-    placed = tt;
-    ends = tt;
-    each = λ se t there. absurd (h.idle se t there);
-    unbegun = λ trx member above. unopened trx member;
-  }
+      next_at : (j : ℕ) (g : Event) → n.at.view ≤ j + 1 → j < n.at.certified + 1
+          → slice_get order j ≡ Some g → g ≡ view_event
+      next_at j g from before there =
+          let number = h.newcomer.number in
+          let same : j ≡ h.newcomer.before = omega (arith, from, before, here, number) in
+          same_Some g view_event (sym there ∙ ap (slice_get order) same ∙ h.newcomer.opens)
 
-  pub view_certified : (e : Event) → MayCertify order n e → OrderedFacts order (with_certified n)
-  view_certified e may =
-      let is = first_event e may.next in
-      let there = may.next ∙ ap Some is in
-      let none : pending order (with_certified n) ≡ [] =
-      sym (certifies_pending order n f.in_order f.sent may.more
-      (event.View h.version h.members) there) ∙ h.nothing in
-      let unseen : seen_ahead order (with_certified n) ≡ [] =
-      sym (seen_next order n (event.View h.version h.members) None there refl)
-      ∙ h.unseen in
-      subst (λ r. Entered r n.at.member n.at.view n.at.begin n.at.serial n.at.committed n.live
-      (pending_sets order (with_certified n)) (seen_ahead order (with_certified n))) (sym state_is)
-      (subst (λ bodies. Entered viewed n.at.member n.at.view n.at.begin n.at.serial n.at.committed
-      n.live (filter_map decoded bodies) (seen_ahead order (with_certified n))) (sym none)
-      (subst (Entered viewed n.at.member n.at.view n.at.begin n.at.serial n.at.committed n.live [])
-      (sym unseen) viewed_entered))
+      view_entered : Entered (state_at order (n.at.certified + 1)) n.at.member n.at.view n.at.begin
+          n.at.serial n.at.committed n.live [] []
+      view_entered =
+          let within = slice_get_within order h.newcomer.before view_event h.newcomer.opens in
+          newcomer_entered order n.at.member n.at.view h.newcomer (n.at.certified + 1)
+          (omega (arith, within, here))
+          (λ j g from before there.
+          subst (λ x. message_of n.at.member x ≡ None) (sym (next_at j g from before there)) refl)
+          (λ j g from before there.
+          subst (Keeps n.at.member) (sym (next_at j g from before there)) h.newcomer.has)
+          (n.at.certified + 1) n.at.begin n.at.serial n.at.committed n.live last (omega arith)
+          h.positive h.idle
+
+      view_certified : OrderedFacts order (with_certified n)
+      view_certified =
+          subst (λ bodies. Entered (state_at order (n.at.certified + 1)) n.at.member n.at.view
+          n.at.begin n.at.serial n.at.committed n.live (filter_map decoded bodies)
+          (seen_ahead order (with_certified n))) (sym nothing_next)
+          (subst (λ ms. Entered (state_at order (n.at.certified + 1)) n.at.member n.at.view
+          n.at.begin n.at.serial n.at.committed n.live [] (filter_map seen_in ms)) (sym silent_next)
+          view_entered)
+
+    certified_by : (b : Bool) → nat_lt (n.at.certified + 1) n.at.view ≡ b
+        → Stage order (with_certified n)
+    certified_by true below = still_early (ltb-true (n.at.certified + 1) n.at.view below)
+    certified_by false last = Since (view_certified (ltb-false (n.at.certified + 1) n.at.view last))
+
+    early_certified : Stage order (with_certified n)
+    early_certified = certified_by (nat_lt (n.at.certified + 1) n.at.view) refl
 
   -- what is pending is in other places
   early_pending : (bodies : List (List ℕ)) → pending order n ≡ bodies
       → IsEarly order n.at.member n.at.view n.at.certified n.at.serial n.live bodies
-      (seen_ahead order n)
+      (messages_ahead order n)
   early_pending bodies same =
       subst (λ bs. IsEarly order n.at.member n.at.view n.at.certified n.at.serial n.live bs
-      (seen_ahead order n)) same h
+      (messages_ahead order n)) same h
+
+  not_synced : n.at.view ≤ n.at.committed → ⊥
+  not_synced synced = omega (arith, synced, f.in_order.committed_fits, h.before)
 
   pub early_moved : (given : Type 0) (k : Kind) (m : ModelNode)
       → (k ≡ Pays → n.at.view ≤ n.at.committed) → May true k → Move order given n k m
       → Stage order m
-  early_moved given k m synced may (Begins se unit begins) =
-      let s = synced refl in
-      absurd (omega (arith, s, f.in_order.committed_fits, h.none, h.first))
+  early_moved given k m synced may (Begins se unit begins) = absurd (not_synced (synced refl))
   early_moved given k m synced may (Extends se t change here fits free) =
       absurd (h.idle se t here.there)
   early_moved given k m synced may (Streams se t here change range) =
@@ -196,14 +223,12 @@ module _ (order : List Event) (n : ModelNode) (f : Facts order n)
   early_moved given k m synced may (Ends se t o there) = absurd (h.idle se t there)
   early_moved given k m synced may (TakesBack se t w o there due range) = absurd (h.idle se t there)
   early_moved given k m synced may (Unlocks se t to there unlocked) = absurd (h.idle se t there)
-  early_moved given k m synced may (Reports stays) =
-      let s = synced refl in
-      absurd (omega (arith, s, f.in_order.committed_fits, h.none, h.first))
+  early_moved given k m synced may (Reports stays) = absurd (not_synced (synced refl))
   early_moved given k m synced may (Orders front back is) = absurd may
   early_moved given k m synced may (Leaves stay) = absurd may
   early_moved given k m synced may (Takes e ordered there leaves) =
       Early (early_pending _ (takes_pending order n f.in_order f.sent e ordered there leaves))
-  early_moved given k m synced may (Certifies e next) = Since (view_certified e next)
+  early_moved given k m synced may (Certifies e next) = early_certified e next
   early_moved given k m synced may (Passes se t body w judged pass) =
       absurd (h.idle se t judged.there)
   early_moved given k m synced may (Fails se t body w v judged came) =
@@ -212,12 +237,14 @@ module _ (order : List Event) (n : ModelNode) (f : Facts order n)
   early_moved given k m synced may _ = Early h
 
 -- ---- either
-pub stage_moved : (order : List Event) (n : ModelNode) (given : Type 0) → given → (k : Kind)
-    (m : ModelNode) → (k ≡ Pays → n.at.view ≤ n.at.committed)
-    → ((e : Event) → n.at.certified == n.at.taken ≡ false
+module _ (order : List Event) (n : ModelNode) (given : Type 0) (g : given) (k : Kind)
+    (m : ModelNode) (synced : k ≡ Pays → n.at.view ≤ n.at.committed)
+    (keeps : (e : Event) → n.at.view ≤ n.at.certified → n.at.certified == n.at.taken ≡ false
     → slice_get order n.at.certified ≡ Some e → Keeps n.at.member e)
-    → May true k → Move order given n k m → Facts order n → Stage order n → Stage order m
-stage_moved order n given g k m synced keeps may move f (Early h) =
-    early_moved order n f h given k m synced may move
-stage_moved order n given g k m synced keeps may move f (Since h) =
-    Since (ordered_moved order n f h given g k m synced keeps may move)
+    (may : May true k) (move : Move order given n k m) (f : Facts order n) where
+  pub stage_moved : Stage order n → Stage order m
+  stage_moved (Early h) = early_moved order n f h given k m synced may move
+  stage_moved (Since h) =
+      let up : n.at.view ≤ n.at.certified =
+      subst (λ j. n.at.view ≤ j) (number-at order n.at.certified (within_order order n f)) h.entered
+      in Since (ordered_moved order n f h given g k m synced (λ e. keeps e up) may move)

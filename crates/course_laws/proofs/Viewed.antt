@@ -1,6 +1,6 @@
 -- Along a course the last view has the member exactly while its node has not left.
-use Rattle.std.proofs.Common.{◌≡◌, ℕ, Bool, true, false, cond, List, [], ◌∷◌, ◌++◌, refl, ap, sym, subst, ◌∙◌}
-use Rattle.std.specs.Prelude.{◌==◌, ◌||◌, not, map, fold}
+use Rattle.std.proofs.Common.{◌≡◌, ℕ, Bool, true, false, cond, List, [], ◌∷◌, ◌++◌, refl, ap, sym, subst, ◌∙◌, eq-eqb}
+use Rattle.std.specs.Prelude.{◌==◌, ◌||◌, ◌&&◌, not, map, fold}
 use Rattle.std.specs.List.{AllByRecursion, list_any}
 use Rattle.std.proofs.lemmas.List.Sums.{fold-append}
 use Rattle.order_event.specs.declared.event.Event.{Event}
@@ -9,8 +9,10 @@ use Rattle.order_event.specs.declared.event.Message.{Message}
 use Rattle.order_event.specs.declared.event.Message.TheVariants as message
 use Rattle.order_event.specs.declared.step.Act.{Act}
 use Rattle.order_event.specs.declared.step.Act.TheVariants as act
-use Rattle.group_order.specs.Order.{event_of, newer_view, last_view, all_but, view_without}
-use Rattle.node_meaning.specs.Node.{ModelNode, is_left}
+use Rattle.group_order.specs.Order.{event_of, newer_view, last_view, all_but, view_without, view_with, new_member}
+use Rattle.node_meaning.specs.declared.progress.Phase.{Phase}
+use Rattle.node_meaning.specs.declared.progress.Phase.TheVariants as phase
+use Rattle.node_meaning.specs.Node.{ModelNode, is_left, is_joining}
 use Rattle.node_meaning.specs.Steps.{first_sent, node_step, drained}
 use Rattle.node_meaning.specs.declared.progress.Progress.{Progress}
 use Rattle.node_laws.proofs.Moves.{Reaches, with_ordered}
@@ -19,7 +21,7 @@ use Rattle.node_laws.proofs.AdvanceMoves.{CanStep, CanDrain, step_moves, drained
 use Rattle.node_laws.proofs.InStep.{phase_reached}
 use Rattle.node_laws.proofs.Leaving.{left_at}
 use Rattle.node_laws.proofs.SetLists.{equal, unequal}
-use Rattle.course_laws.specs.Courses.{Course, Happens, Others, Does, first_event, leave_over, does, next, course, IsOfOthers, Fits, AllFit}
+use Rattle.course_laws.specs.Courses.{Course, Happens, Others, Does, Takes, Installs, first_event, leave_over, join_over, does, next, course, IsOfOthers, Fits, AllFit}
 use Rattle.course_laws.specs.Laws.{IsViewed}
 
 -- ---- members without one
@@ -54,6 +56,20 @@ pub without_other : (member other : ℕ) (xs : List ℕ) → (other ≡ member �
 without_other member other [] differs = refl
 without_other member other (x ∷ xs) differs =
     but_other member other x xs (x == other) refl differs (without_other member other xs differs)
+
+-- ---- one more
+pub any_last : (m k : ℕ) (xs : List ℕ) → list_any (λ j. j == m) (xs ++ k ∷ [])
+    ≡ (list_any (λ j. j == m) xs || k == m)
+any_last m k [] = last_or (k == m)
+  where
+    last_or : (b : Bool) → b || false ≡ b
+    last_or true = refl
+    last_or false = refl
+any_last m k (x ∷ xs) = first_or (x == m) _ _ _ (any_last m k xs)
+  where
+    first_or : (a b c d : Bool) → b ≡ c || d → a || b ≡ (a || c) || d
+    first_or true b c d is = refl
+    first_or false b c d is = is
 
 -- ---- views behind the order
 module _ (member : ℕ) (left : Bool) where
@@ -141,6 +157,26 @@ drain_viewed c is =
     (viewed_sent c.order c.node.at.member c.node.at.member c.node.outbox
     (is_left c.node.at.phase) is)
 
+-- a view with a new one is the last
+pub has_last : (m : ℕ) (xs : List ℕ) → Has m (xs ++ m ∷ []) ≡ true
+has_last m [] = ap (λ b. b || false) (eq-eqb m m refl)
+has_last m (x ∷ xs) = by (x == m) (has_last m xs)
+  where
+    by : (b : Bool) → Has m (xs ++ m ∷ []) ≡ true → b || Has m (xs ++ m ∷ []) ≡ true
+    by true rest = refl
+    by false rest = rest
+
+pub viewed_joined : (order : List Event) (member : ℕ)
+    → IsViewed (order ++ view_with order member ∷ []) member false
+viewed_joined order member =
+    ap (λ (last : ℕ × List ℕ). Has member last.1)
+    (fold-append newer_view (0, []) order (view_with order member ∷ []))
+    ∙ has_last member (last_view order).1
+
+join_viewed : (c : Course) (fresh b : Bool) → Viewed c → Viewed (cond b (join_over fresh c) c)
+join_viewed c fresh true is = viewed_joined c.order (new_member c.order)
+join_viewed c fresh false is = is
+
 left_viewed : (c : Course) → Viewed (leave_over c)
 left_viewed c =
     subst (λ (at : Progress). IsViewed (c.order ++ view_without c.order c.node.at.member ∷ [])
@@ -162,16 +198,26 @@ does_viewed c (act.Finish number) is = step_viewed c (act.Finish number) is
 does_viewed c act.Advance is = step_viewed c act.Advance is
 does_viewed c act.Report is = step_viewed c act.Report is
 does_viewed c act.Status is = step_viewed c act.Status is
-does_viewed c (act.Join fresh) is = step_viewed c (act.Join fresh) is
+does_viewed c (act.Join fresh) is =
+    join_viewed c fresh (is_left c.node.at.phase && c.node.at.taken == c.node.at.committed) is
 does_viewed c (act.Transfer donor) is = step_viewed c (act.Transfer donor) is
+
+not_left : (now : Phase) → is_joining now ≡ true → is_left now ≡ false
+not_left phase.Left joining = cc
+not_left phase.Joining joining = refl
+not_left phase.Connected joining = cc
 
 -- what happens keeps it
 pub next_viewed : (c : Course) (x : Happens) → Fits c x
     → IsViewed c.order c.node.at.member (is_left c.node.at.phase)
     → IsViewed (next c x).order (next c x).node.at.member (is_left (next c x).node.at.phase)
 next_viewed c (Others events) fits is =
-    viewed_grown c.node.at.member (is_left c.node.at.phase) c.order events fits is
+    viewed_grown c.node.at.member (is_left c.node.at.phase) c.order events fits.0 is
 next_viewed c (Does a) fits is = does_viewed c a is
+next_viewed c (Takes last) fits is =
+    subst (IsViewed c.order c.node.at.member) (not_left c.node.at.phase fits.0) is
+next_viewed c (Installs number id) fits is =
+    subst (IsViewed c.order c.node.at.member) (not_left c.node.at.phase fits.0) is
 
 pub course_viewed : (c : Course) (happens : List Happens) → AllFit c happens
     → IsViewed c.order c.node.at.member (is_left c.node.at.phase)

@@ -1,5 +1,5 @@
 -- the laws of a node of a cluster over the order so far
-use Rattle.std.specs.Prelude.{◌≡◌, ◌≤◌, ◌<◌, ◌^◌, ℕ, ◌==◌, Bool, true, false, not, List, length, slice_get, Some, None, if◌then◌else◌}
+use Rattle.std.specs.Prelude.{◌≡◌, ◌≤◌, ◌<◌, ◌^◌, ℕ, ◌+◌, ◌==◌, Bool, true, false, not, List, [], ◌∷◌, length, slice_get, Some, None, if◌then◌else◌}
 use Rattle.std.specs.List.{AllByRecursion, list_any}
 use Rattle.finite_map.specs.FiniteMap.{get}
 use Rattle.wsrep_base.specs.declared.ids.TrxId.{TrxId}
@@ -7,6 +7,8 @@ use Rattle.wsrep_base.specs.declared.verdict.Verdict.{Verdict}
 use Rattle.wsrep_base.specs.declared.verdict.Verdict.TheVariants as verdict
 use Rattle.order_event.specs.declared.event.Event.{Event}
 use Rattle.order_event.specs.declared.event.Event.TheVariants as event
+use Rattle.order_event.specs.declared.step.Act.{Act}
+use Rattle.order_event.specs.declared.step.Act.TheVariants as act
 use Rattle.order_event.specs.declared.step.Answer.{Answer}
 use Rattle.order_event.specs.declared.step.Answer.TheVariants as answer
 use Rattle.order_event.specs.declared.step.Step.{Step}
@@ -23,7 +25,7 @@ use Rattle.node_meaning.specs.Facts.{sets_of, HasFailed}
 use Rattle.node_laws.specs.InStep.{message_of, IsInStep, IsCleared}
 use Rattle.node_laws.specs.Fits.{ActFits}
 use Rattle.course_laws.specs.Ordered.{pending_sets}
-use Rattle.course_laws.specs.Courses.{Happens, AllFit, course, start_course}
+use Rattle.course_laws.specs.Courses.{Course, Happens, AllFit, course, start_course}
 
 -- it passes, or another came first
 abbrev pub IsByConflict : Verdict → Type 0
@@ -59,18 +61,18 @@ NoneFailed order n =
 abbrev pub IsViewed : List Event → ℕ → Bool → Type 0
 IsViewed order member left = list_any (λ k. k == member) (last_view order).1 ≡ not left
 
--- no message of the member stands behind a view without it
-abbrev pub NoneBehind : List Event → ℕ → Type 0
-NoneBehind order member =
-    (place behind version : ℕ) (members : List ℕ) (e : Event)
+-- no message of the member stands behind a view without it, from the view on in which it entered
+abbrev pub NoneBehind : List Event → ℕ → ℕ → Type 0
+NoneBehind order member view =
+    (place behind version : ℕ) (members : List ℕ) (e : Event) → view ≤ place + 1
     → slice_get order place ≡ Some (event.View version members)
     → list_any (λ k. k == member) members ≡ false
     → place < behind → slice_get order behind ≡ Some e → message_of member e ≡ None
 
--- each view that it took has its member
+-- each view that it took has its member, from the one on in which that entered
 abbrev pub TookItsViews : List Event → ModelNode → Type 0
 TookItsViews order n =
-    (place version : ℕ) (members : List ℕ) → place < n.at.taken
+    (place version : ℕ) (members : List ℕ) → n.at.view ≤ place + 1 → place < n.at.taken
     → slice_get order place ≡ Some (event.View version members)
     → list_any (λ k. k == n.at.member) members ≡ true
 
@@ -87,34 +89,67 @@ pub record NodeLaws (order : List Event) (n : ModelNode) : Type 0 where
   pub once : SentStandOnce order n
   pub none_failed : NoneFailed order n
   pub viewed : IsViewed order n.at.member (is_left n.at.phase)
-  pub none_behind : NoneBehind order n.at.member
+  pub none_behind : NoneBehind order n.at.member n.at.view
   pub cleared : is_left n.at.phase ≡ true → IsCleared n.ordered n.outbox n.live
   pub idle : is_left n.at.phase ≡ true → EndsIdle n
   pub took : TookItsViews order n
 
+-- a member that the node was before has left, and each write set of it in the order passes, or
+-- another came first
+pub record FormerLaws (order : List Event) (member : ℕ) : Type 0 where
+  pub decided : OwnAreDecided order member
+  pub viewed : IsViewed order member true
+
+pub record CourseLaws (c : Course) : Type 0 where
+  pub node : NodeLaws c.order c.node
+  pub former : AllByRecursion (FormerLaws c.order) c.former
+
 -- they hold at the end of every course from a start, while numbers are in range
 abbrev pub CoursesAreLawful : Type 0
 CoursesAreLawful =
-    (nodes member : ℕ) (id : List ℕ) (happens : List Happens)
+    (nodes gcache member : ℕ) (id : List ℕ) (happens : List Happens)
     → 1 ≤ member → member ≤ nodes → member < 2 ^ 32
-    → AllFit (start_course nodes id member) happens → length happens < 2 ^ 63
-    → length (course (start_course nodes id member) happens).order ≤ 2 ^ 63
-    → NodeLaws (course (start_course nodes id member) happens).order
-    (course (start_course nodes id member) happens).node
+    → AllFit (start_course nodes gcache id member) happens → length happens < 2 ^ 63
+    → length (course (start_course nodes gcache id member) happens).order ≤ 2 ^ 63
+    → CourseLaws (course (start_course nodes gcache id member) happens)
 
--- and so of every node of every run of a cluster
+-- ---- runs of a cluster
+-- one for a step by which a node may join
+abbrev pub joins_by : Act → ℕ
+joins_by (act.Join fresh) = 1
+joins_by other = 0
+
+-- how many of the steps are such
+abbrev pub joins : List Step → ℕ
+joins [] = 0
+joins (step ∷ steps) = joins_by step.act + joins steps
+
+-- each write set in the order passes, or another came first, whoever sent it
+abbrev pub AllAreDecided : List Event → Type 0
+AllAreDecided order = (member : ℕ) → OwnAreDecided order member
+
+-- the laws hold of every node of every run of a cluster, while its members are in range
 abbrev pub RunsAreLawful : Type 0
 RunsAreLawful =
-    (nodes : ℕ) (id : List ℕ) (steps : List Step)
-    → nodes < 2 ^ 32 → length steps < 2 ^ 63
+    (nodes gcache : ℕ) (id : List ℕ) (steps : List Step)
+    → nodes + joins steps < 2 ^ 32 → length steps < 2 ^ 63
     → AllByRecursion (λ (step : Step). ActFits step.act) steps → (i : ℕ) (n : ModelNode)
-    → slice_get (run steps (start_cluster nodes id)).1.nodes i ≡ Some n
-    → NodeLaws (run steps (start_cluster nodes id)).1.order n
+    → slice_get (run steps (start_cluster nodes gcache id)).1.nodes i ≡ Some n
+    → NodeLaws (run steps (start_cluster nodes gcache id)).1.order n
+
+-- and so every write set that any node sent, under any of its members, is decided
+abbrev pub RunsDecideAll : Type 0
+RunsDecideAll =
+    (nodes gcache : ℕ) (id : List ℕ) (steps : List Step)
+    → nodes + joins steps < 2 ^ 32 → length steps < 2 ^ 63
+    → AllByRecursion (λ (step : Step). ActFits step.act) steps
+    → AllAreDecided (run steps (start_cluster nodes gcache id)).1.order
 
 -- no step of any run of a cluster answers SPLIT
 abbrev pub RunsNeverSplit : Type 0
 RunsNeverSplit =
-    (nodes : ℕ) (id : List ℕ) (steps : List Step)
-    → nodes < 2 ^ 32 → length steps < 2 ^ 63
+    (nodes gcache : ℕ) (id : List ℕ) (steps : List Step)
+    → nodes + joins steps < 2 ^ 32 → length steps < 2 ^ 63
     → AllByRecursion (λ (step : Step). ActFits step.act) steps
-    → AllByRecursion (λ (a : Answer). a ≡ answer.Split → ⊥) (run steps (start_cluster nodes id)).0
+    → AllByRecursion (λ (a : Answer). a ≡ answer.Split → ⊥)
+    (run steps (start_cluster nodes gcache id)).0

@@ -1,5 +1,5 @@
 -- what holds of a node of a cluster over the order so far, beside the facts that hold over any
-use Rattle.std.specs.Prelude.{◌≡◌, ◌≤◌, ◌<◌, ℕ, ◌==◌, max, not, false, true, List, [], ◌∷◌, ◌++◌, length, slice_get, Option, Some, None}
+use Rattle.std.specs.Prelude.{◌≡◌, ◌≤◌, ◌<◌, ℕ, ◌+◌, ◌==◌, max, not, false, true, List, [], ◌∷◌, ◌++◌, length, slice_get, Option, Some, None}
 use Rattle.std.specs.List.{filter_map, list_any, AllByRecursion}
 use Rattle.std.specs.Option.{option_map}
 use Rattle.std.specs.Ordering.{nat_cmp}
@@ -30,11 +30,14 @@ abbrev pub seen_in : Message → Option ℕ
 seen_in (message.Write body) = option_map (λ (w : WriteSet). w.last_seen) (decoded body)
 seen_in (message.Report number) = Some number
 
--- so of each of the member's messages behind what its node certified: those in the order, and then
--- those in its outbox
+-- the member's messages behind what its node certified: those in the order, and then those in its
+-- outbox
+abbrev pub messages_ahead : List Event → ModelNode → List Message
+messages_ahead order n = messages_behind n.at.member n.at.certified order ++ n.outbox
+
+-- what was committed when each of them was sent
 abbrev pub seen_ahead : List Event → ModelNode → List ℕ
-seen_ahead order n =
-    filter_map seen_in (messages_behind n.at.member n.at.certified order ++ n.outbox)
+seen_ahead order n = filter_map seen_in (messages_ahead order n)
 
 -- the numbers do not fall, from the one number on, and none is above the other
 abbrev pub Rises : ℕ → List ℕ → ℕ → Type 0
@@ -70,6 +73,8 @@ pub record GoesOn (s : FoldState) (view committed : ℕ) (t : Live) : Type 0 whe
 -- the node's member is one, and what is pending follows what it had sent
 pub record Entered (s : FoldState) (member view begin serial committed : ℕ)
     (live : FiniteMap nat_cmp Live) (sets : List WriteSet) (seen : List ℕ) : Type 0 where
+  -- the view in which it entered is certified
+  pub entered : view ≤ s.number
   pub standing : Standing
   pub is_member : get s.members member ≡ Some standing
   pub floor : s.floor ≤ standing.report
@@ -95,23 +100,37 @@ Keeps member (event.Write sender body) = Unit {0}
 Keeps member (event.View version members) = list_any (λ k. k == member) members ≡ true
 Keeps member (event.Report sender number) = Unit {0}
 
--- the node has not certified the view in which its member enters, which is the first event: it has
--- nothing live and has sent nothing
+-- an event knows nothing of a member: it is none of the member's, and no view has it
+abbrev pub IsUnaware : ℕ → Event → Type 0
+IsUnaware member (event.Write sender body) = sender == member ≡ false
+IsUnaware member (event.View version members) = list_any (λ k. k == member) members ≡ false
+IsUnaware member (event.Report sender number) = sender == member ≡ false
+
+-- a member enters with this view, and no event before it knows of the member
+pub record IsNewcomer (order : List Event) (member view : ℕ) : Type 0 where
+  pub before : ℕ
+  pub number : view ≡ before + 1
+  pub version : ℕ
+  pub members : List ℕ
+  pub opens : slice_get order before ≡ Some (event.View version members)
+  pub has : list_any (λ k. k == member) members ≡ true
+  pub unaware : (j : ℕ) (e : Event) → j < before → slice_get order j ≡ Some e
+      → IsUnaware member e
+
+-- the node has not certified the view in which its member enters: it has nothing live and has sent
+-- nothing
 pub record IsEarly (order : List Event) (member view certified serial : ℕ)
-    (live : FiniteMap nat_cmp Live) (bodies : List (List ℕ)) (seen : List ℕ) : Type 0 where
-  pub none : certified ≡ 0
-  pub first : view ≡ 1
+    (live : FiniteMap nat_cmp Live) (bodies : List (List ℕ)) (ahead : List Message)
+    : Type 0 where
+  pub before : certified < view
+  pub newcomer : IsNewcomer order member view
   pub positive : 0 < serial
   pub idle : (session : ℕ) (t : Live) → get live session ≡ Some t → ⊥
   pub nothing : bodies ≡ []
-  pub unseen : seen ≡ []
-  pub version : ℕ
-  pub members : List ℕ
-  pub opens : slice_get order 0 ≡ Some (event.View version members)
-  pub has : list_any (λ k. k == member) members ≡ true
+  pub silent : ahead ≡ []
 
 -- before that, and since
 pub data Stage (order : List Event) (n : ModelNode) : Type 0 where
   Early : IsEarly order n.at.member n.at.view n.at.certified n.at.serial n.live (pending order n)
-      (seen_ahead order n) → Stage order n
+      (messages_ahead order n) → Stage order n
   Since : OrderedFacts order n → Stage order n

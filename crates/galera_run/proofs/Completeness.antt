@@ -18,6 +18,7 @@ use Rattle.galera_run.proofs.Askings.{not_load}
 use Rattle.galera_run.proofs.LoadRanges.{load_fits}
 use Rattle.galera_run.proofs.Replicating.{runs_replicate}
 use Rattle.std.specs.Prelude.{codes}
+use Rattle.answer_laws.proofs.RunAnswers.{few_joins}
 
 -- ---- `steps`
 module _ (input : List ℕ) (b u v : Option (List ℕ)) (within : IsWithinGrammar input) where
@@ -80,7 +81,8 @@ none_whole o u v status ko kn is =
 -- ---- the run of a workload is right
 pub load_replicates : (seed count : ℕ) → count ≤ 30_000 → LoadReplicates seed count
 load_replicates seed count few =
-    runs_replicate load_header.nodes load_header.id (load_steps seed count) (omega arith)
+    runs_replicate load_header.nodes load_header.gcache load_header.id (load_steps seed count)
+    (omega (arith, load_length seed count, few, few_joins (load_steps seed count)))
     (omega (arith, load_length seed count, few)) (load_fits seed count few)
 
 is_at_least : (m n : ℕ) → nat_le m n ≡ true → m ≤ n

@@ -6,8 +6,7 @@ use Rattle.script_text.specs.declared.line.ScriptCause.{ScriptCause}
 use Rattle.galera_run.specs.declared.fault.Finished.{Finished}
 use Rattle.galera_run.specs.declared.fault.RunFault.{RunFault}
 use Rattle.galera_run.specs.declared.fault.RunFault.TheVariants as stop
-use Rattle.galera_run.specs.declared.place.Opened.{Opened}
-use Rattle.galera_run.specs.declared.place.Place.{Place}
+use Rattle.galera_run.specs.Places.{Opened, Place}
 use Rattle.galera_run.specs.Lines.{last_line}
 use Rattle.galera_run.specs.Reading.{Told, Run, told_at, told_from, front, follows, line_at, answer_line, run_told, run_ended, ending_of, end_of, end_text}
 use Rattle.galera_run.specs.Writing.{AppendsFront}

@@ -7,8 +7,7 @@ use Rattle.std.proofs.lemmas.List.{append-nil}
 use Rattle.std.proofs.Math.Seq.{take-length}
 use Rattle.order_event.specs.declared.step.Answer.{Answer}
 use Rattle.script_text.specs.declared.line.ScriptCause.{ScriptCause}
-use Rattle.galera_run.specs.declared.place.Place.{Place}
-use Rattle.galera_run.specs.declared.script.Script.{Script}
+use Rattle.galera_run.specs.Places.{Place, Script}
 use Rattle.galera_run.specs.Lines.{lines_to, lines_of, last_line, no_line}
 use Rattle.galera_run.specs.Reading.{Told, start, follows, told_from, line_at, answer_line, run_of, first_text, Ending, ending_of, end_text, refused}
 use Rattle.galera_run.specs.Writing.{IsFrontOf}

@@ -19,8 +19,8 @@ use Rattle.node_meaning.specs.Facts.{CallInRange}
 use Rattle.node_laws.proofs.ClusterLaws.{ActFits}
 use Rattle.script_text.specs.declared.line.Line.TheVariants as line
 use Rattle.script_text.specs.Words.{text_of, words_of, ◌is◌, ◌>>=◌, alone}
-use Rattle.script_text.specs.Fields.{is_number, only_number, number_of, is_name, name_of, is_table_letter, is_row_letter, row_id_of, only_row, numbers_of, values_of, pair_of, pairs_of, are_columns, columns_of, value_at, change_of}
-use Rattle.script_text.specs.Grammar.{begin_of, insert_of, update_of, call_of, verb_of, who_of, act_of, step_of, is_passed_over, said_of, is_short, line_is_within, line_of}
+use Rattle.script_text.specs.Fields.{is_number, only_number, only_node, number_of, is_name, name_of, is_table_letter, is_row_letter, row_id_of, only_row, numbers_of, values_of, pair_of, pairs_of, are_columns, columns_of, value_at, change_of}
+use Rattle.script_text.specs.Grammar.{begin_of, insert_of, update_of, call_of, join_of, verb_of, who_of, act_of, step_of, is_passed_over, said_of, is_short, line_is_within, line_of}
 use Rattle.script_text.proofs.FitLemmas.{line_fits}
 use Rattle.galera_run.proofs.LineLaws.{judged_some}
 
@@ -236,10 +236,15 @@ abbrev pub InRange : Act → Type 0
 InRange (act.Client session asked) = CallInRange asked
 InRange other = Unit {0}
 
-verb_is : (words : List (List ℕ)) → IfSome (verb_of words) InRange
+join_is : (words : List (List ℕ)) → IfSome (join_of words) InRange
+join_is [] = tt
+join_is (word ∷ words) =
+    chosen InRange (word is "fresh") _ _ (alone_is InRange (act.Join true) words tt) tt
+
+verb_is : (nodes : ℕ) (words : List (List ℕ)) → IfSome (verb_of nodes words) InRange
 unfolding verb_of
-verb_is [] = tt
-verb_is (verb ∷ words) =
+verb_is nodes [] = tt
+verb_is nodes (verb ∷ words) =
     chosen InRange (verb is "order") _ _ (alone_is InRange act.Order words tt)
     (chosen InRange (verb is "take") _ _ (alone_is InRange act.Take words tt)
     (chosen InRange (verb is "certify") _ _ (alone_is InRange act.Certify words tt)
@@ -249,18 +254,25 @@ verb_is (verb ∷ words) =
     (chosen InRange (verb is "report") _ _ (alone_is InRange act.Report words tt)
     (chosen InRange (verb is "status") _ _ (alone_is InRange act.Status words tt)
     (chosen InRange (verb is "drain") _ _ (alone_is InRange act.Drain words tt)
-    (chosen InRange (verb is "leave") _ _ (alone_is InRange act.Leave words tt) tt)))))))))
+    (chosen InRange (verb is "leave") _ _ (alone_is InRange act.Leave words tt)
+    (chosen InRange (verb is "join") _ _ (join_is words)
+    (chosen InRange (verb is "transfer") _ _ of_node tt)))))))))))
   where
+    of_node : IfSome (option_map act.Transfer (only_node nodes words)) InRange
+    of_node = mapped (λ n. Unit {0}) InRange (only_node nodes words) act.Transfer
+        (anything (only_node nodes words)) (λ n any. tt)
+
     of_number : (f : ℕ → Act) → ((n : ℕ) → InRange (f n))
         → IfSome (option_map f (only_number words)) InRange
     of_number f made =
         mapped (λ n. Unit {0}) InRange (only_number words) f (anything (only_number words))
         (λ n any. made n)
 
-act_is : (session : Option ℕ) (words : List (List ℕ)) → IfSome (act_of session words) InRange
+act_is : (nodes : ℕ) (session : Option ℕ) (words : List (List ℕ))
+    → IfSome (act_of nodes session words) InRange
 unfolding act_of
-act_is None words = verb_is words
-act_is (Some session) words =
+act_is nodes None words = verb_is nodes words
+act_is nodes (Some session) words =
     mapped CallInRange InRange (call_of words) (act.Client session) (call_is words) (λ c has. has)
 
 step_is : (nodes : ℕ) (words : List (List ℕ))
@@ -270,7 +282,7 @@ step_is nodes [] = tt
 step_is nodes (word ∷ words) =
     chained (λ who. Unit {0}) (λ step. InRange step.act) (who_of nodes word) _
     (anything (who_of nodes word)) (λ who any.
-    chained InRange (λ step. InRange step.act) (act_of who.1 words) _ (act_is who.1 words)
+    chained InRange (λ step. InRange step.act) (act_of nodes who.1 words) _ (act_is nodes who.1 words)
     (λ a has. has))
 
 step_said : (passed : Bool) (o : Option Step) (step : Step)

@@ -1,6 +1,6 @@
 -- What holds of a run of a cluster at each of its moments, and of each of its answers.
 use Rattle.std.proofs.Common.{◌≡◌, ℕ, zero, suc, ◌+◌, ◌-◌, Bool, true, false, cond, List, [], ◌∷◌, ◌++◌, take, Option, None, Some, refl, ap, sym, subst, ◌∙◌, arith, append-nil, append_assoc}
-use Rattle.std.specs.Prelude.{◌==◌, ◌||◌, nat_lt, map, slice_get, is_some}
+use Rattle.std.specs.Prelude.{◌==◌, ◌||◌, nat_lt, not, map, slice_get, is_some}
 use Rattle.std.specs.List.{AllByRecursion}
 use Rattle.std.specs.Ordering.{nat_cmp}
 use Rattle.std.proofs.lemmas.List.{map-append}
@@ -19,7 +19,7 @@ use Rattle.order_event.specs.declared.step.Act.TheVariants as act
 use Rattle.order_event.specs.declared.step.Answer.{Answer}
 use Rattle.order_event.specs.declared.step.Answer.TheVariants as answer
 use Rattle.order_event.specs.declared.step.Step.{Step}
-use Rattle.group_order.specs.Order.{event_of, view_without}
+use Rattle.group_order.specs.Order.{event_of, view_without, view_with, new_member}
 use Rattle.cert_meaning.specs.declared.items.CommitItem.{CommitItem}
 use Rattle.cert_meaning.specs.State.{FoldState, no_events}
 use Rattle.cert_meaning.specs.Fold.{after, judged, judged_all, state_at}
@@ -30,8 +30,11 @@ use Rattle.node_meaning.specs.Node.{ModelNode, ApplyUnit, is_left, is_joining, r
 use Rattle.node_meaning.specs.Client.{row_reply, is_pending, served, asked, told_first, client}
 use Rattle.node_meaning.specs.Status.{status_step}
 use Rattle.node_meaning.specs.Steps.{is_local, unqueued, took, take_event, take_step, touching_before, certify_event, certify_step, start_after, start_unit, start_step, finish_stage, finish_unit, finish_step, is_ready, committed_next, advance_step, put_report, report_step}
+use Rattle.state_transfer.specs.declared.transfer.Plan.{Plan}
+use Rattle.state_transfer.specs.declared.transfer.Plan.TheVariants as plan
 use Rattle.node_meaning.specs.Node.{is_connected}
-use Rattle.node_meaning.specs.Cluster.{ModelCluster, leave_now, order_first, step_of, step_at, cluster_step, run}
+use Rattle.node_meaning.specs.Joining.{by_plan, transfer_plan, transfer_from, received_snapshot}
+use Rattle.node_meaning.specs.Cluster.{ModelCluster, with_node, leave_now, join_now, order_first, step_of, step_at, cluster_step, run}
 use Rattle.node_laws.proofs.SetLists.{equal}
 use Rattle.answer_laws.specs.Answers.{Asker, Told, told_of, asked_of, told_run}
 use Rattle.galera_run.specs.Headline.{HasGrown, Shows, IsOfFold, reply_to, replies}
@@ -51,10 +54,32 @@ module _ (c : ModelCluster) where
     left_grown true = same_order
     left_grown false = (view_without c.order n.at.member ∷ [], refl)
 
+    joined_by : (fresh ready : Bool)
+        → HasGrown c.order (cond ready (join_now fresh c i n)
+        (answer.NotDrained n.at.taken n.at.committed, c)).1.order
+    joined_by fresh true = (view_with c.order (new_member c.order) ∷ [], refl)
+    joined_by fresh false = same_order
+
+    join_grown : (fresh left ready : Bool)
+        → HasGrown c.order (cond (not left) (answer.StillJoined, c)
+        (cond ready (join_now fresh c i n) (answer.NotDrained n.at.taken n.at.committed, c))).1.order
+    join_grown fresh true ready = joined_by fresh ready
+    join_grown fresh false ready = same_order
+
+    transfer_grown : (joining : Bool) (done : Answer × ModelNode)
+        → HasGrown c.order (cond joining (with_node c i done) (answer.NotJoining, c)).1.order
+    transfer_grown true done = same_order
+    transfer_grown false done = same_order
+
     act_grown : (a : Act) → HasGrown c.order (step_of c i n a).1.order
     act_grown act.Order = first_grown n.outbox
     act_grown act.Drain = (map (event_of n.at.member) n.outbox, refl)
     act_grown act.Leave = left_grown (is_left n.at.phase)
+    act_grown (act.Join fresh) =
+        join_grown fresh (is_left n.at.phase) (n.at.taken == n.at.committed)
+    act_grown (act.Transfer donor) =
+        transfer_grown (is_joining n.at.phase)
+        (transfer_from c.order n (slice_get c.nodes (donor - 1)))
     act_grown _ = same_order
 
   at_grown : (i : ℕ) (o : Option ModelNode) (a : Act) → HasGrown c.order (step_at c i o a).1.order
@@ -215,6 +240,49 @@ module _ (c : ModelCluster) where
     first_of [] = tt
     first_of (m ∷ ms) = tt
 
+    join_of_fold : (fresh left ready : Bool)
+        → IsOfFold c.order (cond {A = Answer × ModelCluster} (not left) (answer.StillJoined, c)
+        (cond {A = Answer × ModelCluster} ready (join_now fresh c i n)
+        (answer.NotDrained n.at.taken n.at.committed, c))).0
+    join_of_fold fresh true true = tt
+    join_of_fold fresh true false = tt
+    join_of_fold fresh false ready = tt
+
+    snapshot_by : (donor : ModelNode) (committed behind : Bool)
+        → IsOfFold c.order (cond {A = Answer × ModelNode} (not committed)
+        (answer.DonorBusy donor.at.certified donor.at.committed, n)
+        (cond {A = Answer × ModelNode} behind
+        (answer.DonorBehind n.at.view donor.at.committed, n)
+        (answer.Sst donor.at.committed, received_snapshot donor.at.committed donor.id n))).0
+    snapshot_by donor true true = tt
+    snapshot_by donor true false = tt
+    snapshot_by donor false behind = tt
+
+    plan_by : (donor : ModelNode) (p : Plan) → IsOfFold c.order (by_plan n donor p).0
+    plan_by donor (plan.Ist from) = tt
+    plan_by donor plan.Sst =
+        snapshot_by donor (donor.at.certified == donor.at.committed)
+        (nat_lt donor.at.committed n.at.view)
+
+    donor_by : (donor : ModelNode) (connected behind : Bool)
+        → IsOfFold c.order (cond {A = Answer × ModelNode} (not connected) (answer.NoDonor, n)
+        (cond {A = Answer × ModelNode} behind (answer.DonorBehind n.at.view donor.at.taken, n)
+        (by_plan n donor (transfer_plan c.order n donor)))).0
+    donor_by donor true true = tt
+    donor_by donor true false = plan_by donor (transfer_plan c.order n donor)
+    donor_by donor false behind = tt
+
+    from_by : (donor : Option ModelNode) → IsOfFold c.order (transfer_from c.order n donor).0
+    from_by None = tt
+    from_by (Some donor) =
+        donor_by donor (is_connected donor.at.phase) (nat_lt donor.at.taken n.at.view)
+
+    transfer_of_fold : (joining : Bool) (donor : Option ModelNode)
+        → IsOfFold c.order (cond {A = Answer × ModelCluster} joining
+        (with_node c i (transfer_from c.order n donor)) (answer.NotJoining, c)).0
+    transfer_of_fold true donor = from_by donor
+    transfer_of_fold false donor = tt
+
     act_of_fold : (a : Act) → IsOfFold c.order (step_of c i n a).0
     act_of_fold act.Order = first_of n.outbox
     act_of_fold act.Take = take_of c.order n
@@ -225,6 +293,10 @@ module _ (c : ModelCluster) where
     act_of_fold act.Report = report_of c.order n
     act_of_fold act.Status = status_of c.order n
     act_of_fold act.Leave = left_of (is_left n.at.phase)
+    act_of_fold (act.Join fresh) =
+        join_of_fold fresh (is_left n.at.phase) (n.at.taken == n.at.committed)
+    act_of_fold (act.Transfer donor) =
+        transfer_of_fold (is_joining n.at.phase) (slice_get c.nodes (donor - 1))
     act_of_fold _ = tt
 
   at_of_fold : (i : ℕ) (o : Option ModelNode) (a : Act) → IsOfFold c.order (step_at c i o a).0

@@ -6,19 +6,22 @@ use Rattle.order_event.specs.declared.step.Step.{Step}
 use Rattle.node_meaning.specs.Cluster.{ModelCluster, start_cluster, will_order}
 use Rattle.cluster_core.specs.State.{ClusterState}
 use Rattle.node_laws.specs.Given.{given}
-use Rattle.galera_run.specs.declared.place.Opened.{Opened}
+use Rattle.galera_run.specs.Places.{Opened}
 use Rattle.galera_run.specs.Reading.{most_events}
 use Rattle.galera_run.specs.Feeding.{IsCounted}
 
-first_events : (nodes : ℕ) (id : List ℕ) → length (start_cluster nodes id).order ≡ 1
+first_events : (nodes gcache : ℕ) (id : List ℕ)
+    → length (start_cluster nodes gcache id).order ≡ 1
 unfolding start_cluster
-first_events nodes id = omega arith
+first_events nodes gcache id = omega arith
 
 -- a new cluster
-pub start_counted : (o : Opened) (id : List ℕ) → o.cluster.model ≡ start_cluster o.nodes id → o.cluster.faults ≡ 0
+pub start_counted : (o : Opened) (gcache : ℕ) (id : List ℕ)
+    → o.cluster.model ≡ start_cluster o.nodes gcache id → o.cluster.faults ≡ 0
     → length o.cluster.model.nodes ≡ o.nodes → given o.cluster.model ≡ 1 → IsCounted 0 o
-start_counted o id start none count first =
-    let events : length o.cluster.model.order ≡ 1 = ap (λ (c : ModelCluster). length c.order) start ∙ first_events o.nodes id in
+start_counted o gcache id start none count first =
+    let events : length o.cluster.model.order ≡ 1 =
+    ap (λ (c : ModelCluster). length c.order) start ∙ first_events o.nodes gcache id in
     record { nodes = count; events = omega (arith, events); faults = none; within = omega (arith, first) }
 
 pub counted_later : (steps : ℕ) (o : Opened) → IsCounted 0 o → IsCounted steps o

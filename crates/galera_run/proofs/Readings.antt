@@ -7,8 +7,7 @@ use Rattle.std.proofs.lemmas.List.{append-nil, length-append, take-append-drop, 
 use Rattle.order_event.specs.declared.step.Answer.{Answer}
 use Rattle.script_text.specs.declared.line.ScriptCause.{ScriptCause}
 use Rattle.script_text.specs.declared.line.ScriptCause.TheVariants as cause
-use Rattle.galera_run.specs.declared.place.Place.{Place}
-use Rattle.galera_run.specs.declared.script.Script.{Script}
+use Rattle.galera_run.specs.Places.{Place, Script}
 use Rattle.galera_run.specs.declared.fault.RunFault.{RunFault}
 use Rattle.galera_run.specs.declared.fault.RunFault.TheVariants as stop
 use Rattle.galera_run.specs.Lines.{lines_to, last_line}

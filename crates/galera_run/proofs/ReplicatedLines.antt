@@ -16,8 +16,8 @@ use Rattle.script_text.specs.Grammar.{first_of, line_of}
 use Rattle.script_text.proofs.FitLemmas.{first_is}
 use Rattle.node_meaning.specs.Cluster.{will_order, cluster_step}
 use Rattle.node_laws.proofs.ClusterLaws.{ActFits}
-use Rattle.galera_run.specs.declared.place.Opened.{Opened}
-use Rattle.galera_run.specs.declared.place.Place.{Place}
+use Rattle.answer_laws.proofs.RunAnswers.{few_joins}
+use Rattle.galera_run.specs.Places.{Opened, Place}
 use Rattle.galera_run.specs.Reading.{Told, Reached, place, fault, start, follows, told_from, line_at, read_at, opened_at, stepped_at, answered_at, is_within, most_bytes, most_steps, most_events}
 use Rattle.galera_run.specs.Schedules.{LineStep, said_step, steps_behind, Schedule, schedule_at, schedule_from, text_of_steps}
 use Rattle.galera_run.specs.Replicated.{ReplicatesOver, LinesReplicate}
@@ -175,7 +175,8 @@ by_header steps state count few None at fits = tt
 by_header steps state count few (Some header) at fits =
     let long : length (acts steps) ≡ length steps =
     length-map steps (λ (s : LineStep). s.step) in
-    runs_replicate header.nodes header.id (acts steps) (omega (arith, fits.0))
+    runs_replicate header.nodes header.gcache header.id (acts steps)
+    (omega (arith, fits.0, at.1, long, few, few_joins (acts steps)))
     (omega (arith, at.1, long, few)) fits.1
 
 came : (lines : List (List ℕ)) (q : Place) → (told_from start lines).reached ≡ place q

@@ -16,9 +16,10 @@ use Rattle.cert_meaning.proofs.FoldLaws.{state_at-append}
 use Rattle.node_meaning.specs.Node.{ModelNode, start_node, rows_at, seen_rows}
 use Rattle.node_meaning.specs.Client.{client}
 use Rattle.node_meaning.specs.Cluster.{ModelCluster, start_cluster, run}
-use Rattle.node_laws.proofs.SetLists.{all_each}
-use Rattle.node_laws.proofs.ClusterLaws.{ActFits, SoundCluster, length-up_to, start_sound, run_sound}
-use Rattle.course_laws.proofs.Runs.{numbered}
+use Rattle.node_laws.specs.Fits.{ActFits}
+use Rattle.node_laws.proofs.ClusterLaws.{SoundCluster, length-up_to}
+use Rattle.course_laws.specs.Laws.{joins}
+use Rattle.course_laws.proofs.Runs.{runs_kept}
 use Rattle.answer_laws.proofs.RunAnswers.{runs_answer_right}
 use Rattle.cluster_core.specs.State.{at_of, end_at, end_rows}
 use Rattle.galera_run.specs.Headline.{committed_rows, HasGrown, Shows, ShowsCommitted, Replicates, RunsReplicate}
@@ -39,6 +40,11 @@ first_few : (k : ℕ) (steps : List Step) → length (take k steps) ≤ length s
 first_few zero steps = omega arith
 first_few (suc k) [] = omega arith
 first_few (suc k) (step ∷ steps) = let few = first_few k steps in omega (arith, few)
+
+first_joins : (k : ℕ) (steps : List Step) → joins (take k steps) ≤ joins steps
+first_joins zero steps = omega arith
+first_joins (suc k) [] = omega arith
+first_joins (suc k) (step ∷ steps) = let few = first_joins k steps in omega (arith, few)
 
 -- ---- a node at a moment
 rows_later : (order now : List Event) (n : ℕ) → HasGrown now order → n ≤ length now
@@ -71,17 +77,17 @@ module _ (order now : List Event) (n : ModelNode) (grown : HasGrown now order)
   }
 
 -- ---- a run
-module _ (nodes : ℕ) (id : List ℕ) (steps : List Step) (small : nodes < 2 ^ 32)
+module _ (nodes gcache : ℕ) (id : List ℕ) (steps : List Step) (small : nodes + joins steps < 2 ^ 32)
     (few : length steps < 2 ^ 63) (fits : AllByRecursion Fit steps) where
   abbrev start : ModelCluster
-  start = start_cluster nodes id
+  start = start_cluster nodes gcache id
 
   sound : (k : ℕ) → SoundCluster (1 + length (take k steps)) (run (take k steps) start).1
   sound k =
       let fewer = first_few k steps in
-      run_sound (take k steps) 1 start (omega (arith, few, fewer)) (first_fit k steps fits)
-      (start_sound nodes id (all_each (λ m. m ≤ nodes) (λ m. m < 2 ^ 32)
-      (λ m h. omega (arith, h, small)) (up_to nodes) (numbered nodes)))
+      let fewer_joins = first_joins k steps in
+      (runs_kept nodes gcache id (take k steps) (omega (arith, small, fewer_joins))
+      (omega (arith, few, fewer)) (first_fit k steps fits)).sound
 
   moment : (k i : ℕ) (n : ModelNode) → slice_get (run (take k steps) start).1.nodes i ≡ Some n
       → ShowsCommitted (run steps start).1.order (run (take k steps) start).1.order n
@@ -117,12 +123,12 @@ module _ (nodes : ℕ) (id : List ℕ) (steps : List Step) (small : nodes < 2 ^ 
 
   count : length start.nodes ≡ nodes
   unfolding start_cluster
-  count = length-map (up_to nodes) (start_node id) ∙ length-up_to nodes
+  count = length-map (up_to nodes) (start_node gcache id) ∙ length-up_to nodes
 
   replicates : Replicates start steps
   replicates = record {
     right = λ i inside.
-        runs_answer_right nodes id steps small few fits i (omega (arith, inside, count));
+        runs_answer_right nodes gcache id steps small few fits i (omega (arith, inside, count));
     told = λ i. run_told_is steps start i empty;
     verdicts = run_of_fold steps start;
     moments = moment;
@@ -130,4 +136,4 @@ module _ (nodes : ℕ) (id : List ℕ) (steps : List Step) (small : nodes < 2 ^ 
   }
 
 pub runs_replicate : RunsReplicate
-runs_replicate nodes id steps small few fits = replicates nodes id steps small few fits
+runs_replicate nodes gcache id steps small few fits = replicates nodes gcache id steps small few fits

@@ -9,8 +9,7 @@ use Rattle.script_text.specs.declared.line.Header.{Header}
 use Rattle.script_text.specs.declared.line.ScriptCause.{ScriptCause}
 use Rattle.script_text.specs.declared.line.ScriptCause.TheVariants as cause
 use Rattle.node_meaning.specs.Cluster.{ModelCluster}
-use Rattle.galera_run.specs.declared.place.Opened.{Opened}
-use Rattle.galera_run.specs.declared.place.Place.{Place}
+use Rattle.galera_run.specs.Places.{Opened, Place}
 use Rattle.galera_run.specs.declared.fault.Finished.{Finished}
 use Rattle.galera_run.specs.declared.fault.RunFault.{RunFault}
 use Rattle.galera_run.specs.declared.fault.RunFault.TheVariants as stop

@@ -13,8 +13,7 @@ use Rattle.script_text.specs.declared.line.ScriptCause.TheVariants as cause
 use Rattle.script_text.specs.Grammar.{first_of, line_of}
 use Rattle.report_text.specs.Texts.{line_text}
 use Rattle.node_meaning.specs.Cluster.{ModelCluster, cluster_step, run}
-use Rattle.galera_run.specs.declared.place.Opened.{Opened}
-use Rattle.galera_run.specs.declared.place.Place.{Place}
+use Rattle.galera_run.specs.Places.{Opened, Place}
 use Rattle.galera_run.specs.Lines.{lines_of}
 use Rattle.galera_run.specs.Reading.{Reached, place, fault, start, opened, follows, told_from, line_at, read_at, opened_at, stepped_at, answered_at, is_within, answer_line, most_bytes, run_of, finished, ending_of, end_of, end_text}
 use Rattle.galera_run.specs.Schedules.{LineStep, line_step, Schedule, said_step, steps_behind, schedule_at, schedule_from, run_over, answers_text, cluster_of, text_of_steps, IsRunTo, EndsOver, RunsOverSteps}

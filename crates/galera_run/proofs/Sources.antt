@@ -8,7 +8,7 @@ use Rattle.script_text.specs.declared.line.ScriptCause.{ScriptCause}
 use Rattle.galera_run.specs.declared.fault.Finished.{Finished}
 use Rattle.galera_run.specs.declared.fault.RunFault.{RunFault}
 use Rattle.galera_run.specs.declared.fault.RunFault.TheVariants as stop
-use Rattle.galera_run.specs.declared.script.Script.{Script}
+use Rattle.galera_run.specs.Places.{Script}
 use Rattle.galera_run.specs.Lines.{last_line, no_line}
 use Rattle.galera_run.specs.Reading.{Told, Run, start, front, run_told, run_of, told_so_far, fault}
 use Rattle.galera_run.specs.Writing.{AppendsFront}

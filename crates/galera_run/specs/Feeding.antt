@@ -9,9 +9,7 @@ use Rattle.node_laws.specs.Given.{given}
 use Rattle.script_text.specs.declared.line.ScriptCause.{ScriptCause}
 use Rattle.script_text.specs.declared.line.Header.{Header}
 use Rattle.script_text.specs.Steps.{IsHeader}
-use Rattle.galera_run.specs.declared.place.Opened.{Opened}
-use Rattle.galera_run.specs.declared.place.Place.{Place}
-use Rattle.galera_run.specs.declared.script.Script.{Script}
+use Rattle.galera_run.specs.Places.{Opened, Place, Script}
 use Rattle.galera_run.specs.declared.fault.RunFault.{RunFault}
 use Rattle.galera_run.specs.declared.fault.RunFault.TheVariants as stop
 use Rattle.galera_run.specs.declared.line.LineFault.{LineFault}
@@ -149,7 +147,7 @@ pub record IsHeaderOf (header : Header) : Type 0 where
 
 -- the cluster that a header begins
 abbrev pub IsOpenedBy : Header → Opened → Type 0
-IsOpenedBy header o = o ≡ opened header.nodes (start_cluster header.nodes header.id)
+IsOpenedBy header o = o ≡ opened header.nodes (start_cluster header.nodes header.gcache header.id)
 
 -- how a line fails: refused by its cause, or without memory, which is free
 abbrev pub FailsAs : Result (Option Answer × Place) ScriptCause → LineFault → Type 0

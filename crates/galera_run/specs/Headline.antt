@@ -1,5 +1,5 @@
 -- the theorem of the whole: what every run of a cluster shows, by what its steps are answered
-use Rattle.std.specs.Prelude.{◌≡◌, ◌≤◌, ◌<◌, ◌-◌, ◌==◌, ◌^◌, ℕ, suc, Bool, true, false, List, [], ◌∷◌, ◌++◌, length, map, take, flat_map, slice_get, Some, None}
+use Rattle.std.specs.Prelude.{◌≡◌, ◌≤◌, ◌<◌, ◌+◌, ◌-◌, ◌==◌, ◌^◌, ℕ, suc, Bool, true, false, List, [], ◌∷◌, ◌++◌, length, map, take, flat_map, slice_get, Some, None}
 use Rattle.std.specs.List.{AllByRecursion}
 use Rattle.finite_map.specs.FiniteMap.{empty, get}
 use Rattle.row_model.specs.declared.row.RowId.{RowId}
@@ -21,6 +21,7 @@ use Rattle.node_meaning.specs.Node.{ModelNode, rows_at, seen_rows}
 use Rattle.node_meaning.specs.Units.{ops_at}
 use Rattle.node_meaning.specs.Client.{client}
 use Rattle.node_meaning.specs.Cluster.{ModelCluster, start_cluster, run}
+use Rattle.course_laws.specs.Laws.{joins}
 use Rattle.node_laws.proofs.ClusterLaws.{ActFits}
 use Rattle.answer_laws.specs.Answers.{Told, told_run, AreRight}
 use Rattle.cluster_core.specs.State.{end_at, end_rows}
@@ -97,10 +98,11 @@ pub record Replicates (start : ModelCluster) (steps : List Step) : Type 0 where
       × (end_rows (run steps start).1 (suc i)
       ≡ row_items (committed_rows (run steps start).1.order n.at.committed))
 
--- every run does, of fewer than 2^32 nodes and 2^63 steps, whose calls have names in their form and
--- values in range
+-- every run does, of fewer than 2^63 steps, whose nodes and joins are fewer than 2^32, and whose
+-- calls have names in their form and values in range
 abbrev pub RunsReplicate : Type 0
 RunsReplicate =
-    (nodes : ℕ) (id : List ℕ) (steps : List Step) → nodes < 2 ^ 32 → length steps < 2 ^ 63
+    (nodes gcache : ℕ) (id : List ℕ) (steps : List Step) → nodes + joins steps < 2 ^ 32
+    → length steps < 2 ^ 63
     → AllByRecursion (λ (step : Step). ActFits step.act) steps
-    → Replicates (start_cluster nodes id) steps
+    → Replicates (start_cluster nodes gcache id) steps

@@ -1,4 +1,5 @@
 pub mod Lines
+pub mod Places
 pub mod Reading
 pub mod Writing
 pub mod Feeding

@@ -16,7 +16,7 @@ use Rattle.galera_run.specs.declared.workload.Workload.{Workload}
 
 -- the cluster that the workload runs on, at its start
 abbrev pub load_start : ModelCluster
-load_start = start_cluster load_header.nodes load_header.id
+load_start = start_cluster load_header.nodes load_header.gcache load_header.id
 
 -- the answers of all its steps, and the cluster behind them
 abbrev pub load_run : ℕ → ℕ → List Answer × ModelCluster

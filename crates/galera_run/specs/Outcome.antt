@@ -7,7 +7,7 @@ use Rattle.node_meaning.specs.Cluster.{ModelCluster}
 use Rattle.galera_run.specs.declared.fault.RunFault.{RunFault}
 use Rattle.galera_run.specs.declared.fault.RunFault.TheVariants as stop
 use Rattle.galera_run.specs.declared.fault.Finished.{Finished}
-use Rattle.galera_run.specs.declared.place.Place.{Place}
+use Rattle.galera_run.specs.Places.{Place}
 use Rattle.galera_run.specs.Reading.{Told, place, Run, finished, refused, run_told, run_of, first_text, told_so_far, text_so_far, most_bytes}
 use Rattle.galera_run.specs.Writing.{IsFrontOf, AppendsFront}
 

@@ -12,8 +12,7 @@ use Rattle.report_text.specs.Texts.{line_text, node_text}
 use Rattle.group_order.specs.Order.{up_to}
 use Rattle.node_meaning.specs.Cluster.{ModelCluster, start_cluster, cluster_step, will_order}
 use Rattle.cluster_core.specs.State.{end_at, end_rows}
-use Rattle.galera_run.specs.declared.place.Opened.{Opened}
-use Rattle.galera_run.specs.declared.place.Place.{Place}
+use Rattle.galera_run.specs.Places.{Opened, Place}
 use Rattle.galera_run.specs.Lines.{lines_of, whole_lines}
 
 -- the most bytes of an input, the most step lines, and the most events
@@ -47,7 +46,8 @@ opened_at p line (Ok None) = Ok (None, behind p line p.steps None)
 opened_at p line (Ok (Some header)) =
     Ok (
       None,
-      behind p line p.steps (Some (opened header.nodes (start_cluster header.nodes header.id))),
+      behind p line p.steps
+          (Some (opened header.nodes (start_cluster header.nodes header.gcache header.id))),
     )
 
 -- a step is answered, and the cluster stands as it left it

@@ -68,7 +68,7 @@ answers_text (s ∷ steps) (answer ∷ answers) =
 
 -- the cluster that a header begins
 abbrev pub cluster_of : Header → ModelCluster
-cluster_of header = start_cluster header.nodes header.id
+cluster_of header = start_cluster header.nodes header.gcache header.id
 
 -- what the run over the steps of a schedule prints
 abbrev pub schedule_text : Option Header → List LineStep → List ℕ

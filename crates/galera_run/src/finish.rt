@@ -13,11 +13,12 @@ use report_text::put_node;
 use script_text::ScriptCause;
 use std::alloc::Global;
 use wsrep_base::{ByteList, NoMemory};
+use wsrep_watch::Watcher;
 
 /// Ends the run at the end of the input: the last line needs no newline.
-pub(crate) fn finish<K: Sink>(
+pub(crate) fn finish<K: Sink, W: Watcher>(
     alloc: Global,
-    script: &mut Script,
+    script: &mut Script<W>,
     out: &mut K,
 ) -> Result<Finished, RunFault>
     requires { IsSound script.old }
@@ -31,14 +32,18 @@ pub(crate) fn finish<K: Sink>(
     if script.pending.is_empty() {
         return end_at_place(alloc, &script.place, out);
     }
-    match run_pending(alloc, script, out) {
-        Ok(()) => end_at_place(alloc, &script.place, out),
-        Err(fault) => Err(fault),
+    if let Err(fault) = run_pending(alloc, script, out) {
+        return Err(fault);
     }
+    end_at_place(alloc, &script.place, out)
 }
 
 // Ends the run behind the last line.
-fn end_at_place<K: Sink>(alloc: Global, place: &Place, out: &mut K) -> Result<Finished, RunFault>
+fn end_at_place<K: Sink, W: Watcher>(
+    alloc: Global,
+    place: &Place<W>,
+    out: &mut K,
+) -> Result<Finished, RunFault>
     requires { Stands place.now }
     ensures ok { IfOk result
         (TellsAll (run_told (told_at place.now)) (K.written out.old) (K.written out.new)) }
@@ -56,10 +61,10 @@ fn end_at_place<K: Sink>(alloc: Global, place: &Place, out: &mut K) -> Result<Fi
 }
 
 // Prints each node's place and rows.
-fn print_end<K: Sink>(
+fn print_end<K: Sink, W: Watcher>(
     alloc: Global,
     steps: u64,
-    opened: &Opened,
+    opened: &Opened<W>,
     out: &mut K,
 ) -> Result<Finished, RunFault>
     requires { IsCounted steps opened.now }
@@ -84,7 +89,7 @@ fn print_end<K: Sink>(
 }
 
 // The lines of all nodes.
-fn end_lines(alloc: Global, opened: &Opened) -> Result<ByteList, NoMemory>
+fn end_lines<W: Watcher>(alloc: Global, opened: &Opened<W>) -> Result<ByteList, NoMemory>
     requires { length opened.now.cluster.model.nodes ≡ opened.now.nodes }
     ensures { IfOk result (λ text. text ≡ nodes_end opened.now.cluster.model opened.now.nodes) }
 {

@@ -6,13 +6,15 @@ ghost use Rattle.node_meaning.specs.Cluster.{will_order};
 ghost use Rattle.galera_run.specs.Reading.{most_events, behind, opened_at, stepped_at, line_at};
 ghost use Rattle.galera_run.specs.Feeding.{Stands, IsRoomFor, FailsAs, IsHeaderOf, IsOpenedBy, IsCounted};
 
-use crate::place::{Opened, Place, Unwatched};
+use crate::place::{Opened, Place};
 use cluster_core::{ClusterOf, StepFault};
 use group_order::MemGroup;
 use order_event::{Answer, Step};
 use script_text::{Header, Line, ScriptCause, parse_first, parse_line};
 use std::alloc::Global;
+use std::mem;
 use wsrep_base::NoMemory;
+use wsrep_watch::Watcher;
 
 /// The most bytes of an input.
 pub const MOST_BYTES: usize = 33_554_432;
@@ -31,9 +33,9 @@ pub enum LineFault {
 }
 
 /// Runs the next line, which has the newline that ends it, and says what its step is answered.
-pub(crate) fn take_line(
+pub(crate) fn take_line<W: Watcher>(
     alloc: Global,
-    place: &mut Place,
+    place: &mut Place<W>,
     line: &[u8],
 ) -> Result<Option<Answer>, LineFault>
     requires stands { Stands place.old }
@@ -53,7 +55,11 @@ pub(crate) fn take_line(
 
 // Up to the header, a line is passed over, or is the header, which begins the cluster.
 #[tactic(auto, using(crate::proofs::LineLaws::header_of_line))]
-fn open(alloc: Global, place: &mut Place, line: &[u8]) -> Result<Option<Answer>, LineFault>
+fn open<W: Watcher>(
+    alloc: Global,
+    place: &mut Place<W>,
+    line: &[u8],
+) -> Result<Option<Answer>, LineFault>
     requires { IsRoomFor place.old line.now None }
     ensures ok { IfOk result
         (λ answer. opened_at place.old line.now (first_of line.now) ≡ Ok (answer, place.new)) }
@@ -62,7 +68,7 @@ fn open(alloc: Global, place: &mut Place, line: &[u8]) -> Result<Option<Answer>,
 {
     let steps = place.steps;
     match parse_first(line) {
-        Ok(Some(header)) => match begin(alloc, &header) {
+        Ok(Some(header)) => match begin(alloc, &header, &mut place.watch) {
             Ok(opened) => {
                 pass(place, line, steps, Some(opened));
                 Ok(None)
@@ -77,29 +83,31 @@ fn open(alloc: Global, place: &mut Place, line: &[u8]) -> Result<Option<Answer>,
     }
 }
 
-// The cluster of a header, over a group in memory.
-fn begin(alloc: Global, header: &Header) -> Result<Opened, NoMemory>
+// The cluster of a header, over a group in memory. It is given all the watchers.
+fn begin<W: Watcher>(
+    alloc: Global,
+    header: &Header,
+    watch: &mut Vec<W>,
+) -> Result<Opened<W>, NoMemory>
     requires { IsHeaderOf header.now }
     ensures opened { IfOk result (IsOpenedBy header.now) }
     ensures counted { IfOk result (IsCounted 0) }
 {
     let group = MemGroup::new(alloc, u32::from(header.nodes))?;
+    let watch = mem::replace(watch, Vec::new(alloc));
     Ok(Opened {
         nodes: header.nodes,
-        cluster: ClusterOf::new(
-            alloc,
-            group,
-            header.id,
-            header.nodes,
-            header.gcache,
-            Vec::new(alloc),
-        )?,
+        cluster: ClusterOf::new(alloc, group, header.id, header.nodes, header.gcache, watch)?,
     })
 }
 
 // A line behind the header.
 #[tactic(auto, using(script_text::proofs::FitLemmas::line_fits, script_text::proofs::FitLemmas::line_step))]
-fn run_said(place: &mut Place, opened: Opened, line: &[u8]) -> Result<Option<Answer>, LineFault>
+fn run_said<W: Watcher>(
+    place: &mut Place<W>,
+    opened: Opened<W>,
+    line: &[u8],
+) -> Result<Option<Answer>, LineFault>
     requires { IsRoomFor place.old line.now (Some opened) }
     ensures ok { IfOk result (λ answer.
         stepped_at place.old line.now opened (line_of opened.nodes line.now) ≡ Ok (answer, place.new)) }
@@ -119,9 +127,9 @@ fn run_said(place: &mut Place, opened: Opened, line: &[u8]) -> Result<Option<Ans
 }
 
 // A step, unless it would pass a limit.
-fn run_step(
-    place: &mut Place,
-    mut opened: Opened,
+fn run_step<W: Watcher>(
+    place: &mut Place<W>,
+    mut opened: Opened<W>,
     line: &[u8],
     step: &Step,
 ) -> Result<Option<Answer>, LineFault>
@@ -150,7 +158,7 @@ fn run_step(
 }
 
 // Whether the events that the step is going to order pass the limit.
-fn passes_events(cluster: &Unwatched, step: &Step) -> bool
+fn passes_events<W: Watcher>(cluster: &ClusterOf<MemGroup, W>, step: &Step) -> bool
     requires node { (1 ≤ step.now.node) × (step.now.node ≤ length cluster.now.model.nodes) }
     requires events { length cluster.now.model.order ≤ most_events }
     ensures { result
@@ -161,7 +169,7 @@ fn passes_events(cluster: &Unwatched, step: &Step) -> bool
 }
 
 // Goes behind the line.
-fn pass(place: &mut Place, line: &[u8], steps: u64, state: Option<Opened>)
+fn pass<W: Watcher>(place: &mut Place<W>, line: &[u8], steps: u64, state: Option<Opened<W>>)
     requires numbered { place.old.number < 2 ^ 63 }
     requires room { place.old.before + length line.now < 2 ^ 63 }
     ensures { place.new ≡ behind place.old line.now steps state }

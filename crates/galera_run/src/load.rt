@@ -7,9 +7,8 @@ ghost use Rattle.galera_run.specs.Load.{load_start, load_run, load_summary, node
 ghost use Rattle.galera_run.specs.Replicated.{LoadReplicates};
 
 use crate::fault::{Finished, RunFault};
-use crate::place::Unwatched;
 use crate::print::print_out;
-use crate::workload::Workload;
+use crate::workload::{Unwatched, Workload};
 use cluster_core::{ClusterOf, StepFault};
 use group_order::MemGroup;
 use order_event::Step;

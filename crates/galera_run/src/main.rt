@@ -39,7 +39,13 @@ fn run_words(rt: HostRuntime, words: &[String]) -> u8 {
     match StdSink::new(rt.alloc(), rt.stdout()) {
         Ok(mut out) => {
             let mut input = StdSource::new(rt.stdin());
-            galera_steps(rt.alloc(), words, &mut input, &mut out)
+            galera_steps(
+                rt.alloc(),
+                words,
+                &mut input,
+                &mut out,
+                Vec::new(rt.alloc()),
+            )
         }
         Err(_) => 6,
     }

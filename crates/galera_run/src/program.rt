@@ -15,10 +15,12 @@ use outside_io::{Sink, Source};
 use script_text::ScriptCause;
 use std::alloc::Global;
 use wsrep_base::{ByteList, NoMemory};
+use wsrep_watch::Watcher;
 
 /// Does the command that the words behind the program's name are, and gives the exit status.
 /// `steps` runs the schedule that the source gives. `load --seed N --count N` makes a schedule of
-/// so many transactions, runs it and prints a summary; it reads nothing.
+/// so many transactions, runs it and prints a summary; it reads nothing. The boxes watch the nodes
+/// of a schedule, as `run_steps` says; for all other words they are dropped as they are.
 ///
 /// 0: all was read and the whole text was written. 1: the words are no command. 2: a line is
 /// outside the grammar or passes a limit. 3: the source failed. 4: the sink failed. 6: want of
@@ -28,6 +30,7 @@ pub fn galera_steps<S: Source, K: Sink>(
     words: &[String],
     input: &mut S,
     out: &mut K,
+    watch: Vec<Box<dyn Watcher + Send>>,
 ) -> u8
     // Which count of faults rose, and that there is no other status.
     ensures cause { HasCauses result (S.faults input.old) (S.faults input.new)
@@ -70,7 +73,7 @@ pub fn galera_steps<S: Source, K: Sink>(
         (K.written out.new) (K.faults out.old) (K.faults out.new) }
 {
     if is_steps(words) {
-        return do_steps(alloc, input, out);
+        return do_steps(alloc, input, out, watch);
     }
     match load_asked(alloc, words) {
         Ok(Some(asked)) => do_load(alloc, asked, out),
@@ -101,7 +104,12 @@ fn do_load<K: Sink>(alloc: Global, asked: Asked, out: &mut K) -> u8
 }
 
 // Runs the schedule, and writes the last line where it stops.
-fn do_steps<S: Source, K: Sink>(alloc: Global, input: &mut S, out: &mut K) -> u8
+fn do_steps<S: Source, K: Sink>(
+    alloc: Global,
+    input: &mut S,
+    out: &mut K,
+    watch: Vec<Box<dyn Watcher + Send>>,
+) -> u8
     ensures cause { HasCauses result (S.faults input.old) (S.faults input.new)
         (K.faults out.old) (K.faults out.new) }
     ensures finished { result ≡ 0 → TellsEnd (S.left input.old) (S.left input.new)
@@ -116,7 +124,7 @@ fn do_steps<S: Source, K: Sink>(alloc: Global, input: &mut S, out: &mut K) -> u8
     ensures memory { result ≡ 6 →
         TellsLines (S.left input.old) (K.written out.old) (K.written out.new) }
 {
-    match run_steps(alloc, input, out) {
+    match run_steps(alloc, input, out, watch) {
         Ok(_) => 0,
         Err(RunFault::Script { line, cause }) => end_refused(alloc, line, cause, out),
         Err(RunFault::Read) => end_with(out, b"READ\n", 3),

@@ -12,6 +12,7 @@ use crate::script::{Script, feed};
 use outside_io::{Sink, Source};
 use std::alloc::Global;
 use wsrep_base::ByteList;
+use wsrep_watch::Watcher;
 
 // The length of the slice that each read is given.
 const PIECE: usize = 4096;
@@ -19,10 +20,16 @@ const PIECE: usize = 4096;
 /// Runs a schedule: prints what each step is answered, and at the end each node's place and rows.
 /// Each line is run as soon as it is whole. It stops at the first line at fault, and where the
 /// source or the sink fails.
+///
+/// Box i goes to node i, and hears what that node commits. Those beyond the last node are told that
+/// they ended at 0, and dropped; where no node is made, all are dropped as they are. A node that
+/// leaves tells its watcher the end, and drops it; at the end of the run the others are dropped
+/// without that call.
 pub fn run_steps<S: Source, K: Sink>(
     alloc: Global,
     input: &mut S,
     out: &mut K,
+    watch: Vec<Box<dyn Watcher + Send>>,
 ) -> Result<Finished, RunFault>
     ensures ok { IfOk result (RunTells (S.left input.old) (K.written out.old) (K.written out.new)) }
     ensures end { OnOk result (IsAtEnd (S.left input.new)) }
@@ -36,15 +43,16 @@ pub fn run_steps<S: Source, K: Sink>(
     ensures begins { IfSome (S.left input.old)
         (λ bytes. BeginsRight bytes (K.written out.old) (K.written out.new)) }
 {
-    let ran = run_lines(alloc, input, out);
+    let ran = run_lines(alloc, input, out, watch);
     send_behind(ran, out)
 }
 
 // Runs a schedule, and may leave what it printed to be sent out.
-fn run_lines<S: Source, K: Sink>(
+fn run_lines<S: Source, K: Sink, W: Watcher>(
     alloc: Global,
     input: &mut S,
     out: &mut K,
+    watch: Vec<W>,
 ) -> Result<Finished, RunFault>
     ensures ok { IfOk result (RunTells (S.left input.old) (K.written out.old) (K.written out.new)) }
     ensures end { OnOk result (IsAtEnd (S.left input.new)) }
@@ -58,6 +66,7 @@ fn run_lines<S: Source, K: Sink>(
             number: 1,
             before: 0,
             steps: 0,
+            watch,
             state: None,
         },
         pending: ByteList::new(alloc),
@@ -84,9 +93,9 @@ fn send_behind<K: Sink>(ran: Result<Finished, RunFault>, out: &mut K) -> Result<
 }
 
 // Runs all whole lines of the source.
-fn read_all<S: Source, K: Sink>(
+fn read_all<S: Source, K: Sink, W: Watcher>(
     alloc: Global,
-    script: &mut Script,
+    script: &mut Script<W>,
     input: &mut S,
     out: &mut K,
 ) -> Result<(), RunFault>
@@ -112,9 +121,9 @@ fn read_all<S: Source, K: Sink>(
 }
 
 // Sends out what was printed, and runs the next piece of the source. False where there is none.
-fn read_piece<S: Source, K: Sink>(
+fn read_piece<S: Source, K: Sink, W: Watcher>(
     alloc: Global,
-    script: &mut Script,
+    script: &mut Script<W>,
     input: &mut S,
     out: &mut K,
 ) -> Result<bool, RunFault>
@@ -139,9 +148,9 @@ fn read_piece<S: Source, K: Sink>(
 }
 
 // Runs the next piece of the source. False where there is none.
-fn run_piece<S: Source, K: Sink>(
+fn run_piece<S: Source, K: Sink, W: Watcher>(
     alloc: Global,
-    script: &mut Script,
+    script: &mut Script<W>,
     input: &mut S,
     out: &mut K,
 ) -> Result<bool, RunFault>

@@ -8,19 +8,29 @@ use crate::print::print_answer;
 use outside_io::Sink;
 use script_text::ScriptCause;
 use std::alloc::Global;
+use std::marker::Model;
 use wsrep_base::ByteList;
+use wsrep_watch::Watcher;
 
 /// A schedule as it is read: where its lines stand, and the bytes of the line that has begun.
 #[derive(Drop)]
-pub struct Script {
-    pub place: Place,
+pub struct Script<W: Watcher> {
+    pub place: Place<W>,
     pub pending: ByteList,
 }
 
+impl<W: Watcher> Model for Script<W> {
+    ghost use Rattle.galera_run.specs.Places.{Script};
+
+    ghost Value = { Script };
+
+    ghost view = { λ s. record { place = s.place; pending = s.pending } };
+}
+
 /// Runs the bytes that come next, each line as soon as it is whole.
-pub(crate) fn feed<K: Sink>(
+pub(crate) fn feed<K: Sink, W: Watcher>(
     alloc: Global,
-    script: &mut Script,
+    script: &mut Script<W>,
     piece: &[u8],
     out: &mut K,
 ) -> Result<(), RunFault>
@@ -41,9 +51,9 @@ pub(crate) fn feed<K: Sink>(
     Ok(())
 }
 
-fn take_byte<K: Sink>(
+fn take_byte<K: Sink, W: Watcher>(
     alloc: Global,
-    script: &mut Script,
+    script: &mut Script<W>,
     byte: u8,
     out: &mut K,
 ) -> Result<(), RunFault>
@@ -69,9 +79,9 @@ fn take_byte<K: Sink>(
 }
 
 /// Runs the line that has begun.
-pub(crate) fn run_pending<K: Sink>(
+pub(crate) fn run_pending<K: Sink, W: Watcher>(
     alloc: Global,
-    script: &mut Script,
+    script: &mut Script<W>,
     out: &mut K,
 ) -> Result<(), RunFault>
     requires stands { Stands script.old.place }
@@ -94,9 +104,9 @@ pub(crate) fn run_pending<K: Sink>(
     }
 }
 
-fn run_line<K: Sink>(
+fn run_line<K: Sink, W: Watcher>(
     alloc: Global,
-    place: &mut Place,
+    place: &mut Place<W>,
     line: &[u8],
     out: &mut K,
 ) -> Result<(), RunFault>

@@ -1,5 +1,10 @@
-use crate::place::Unwatched;
+use cluster_core::ClusterOf;
+use group_order::MemGroup;
 use report_text::LoadCounts;
+use wsrep_watch::ListWatcher;
+
+/// Nodes over a group in memory, whom nobody watches.
+pub type Unwatched = ClusterOf<MemGroup, ListWatcher>;
 
 /// A workload as it runs.
 #[derive(Drop)]

@@ -1,15 +1,19 @@
 -- The longest suffix that fits a size, as events are added and dropped.
-use Rattle.std.proofs.Common.{◌≡◌, ℕ, ◌+◌, ◌-◌, ◌<◌, ◌≤◌, Bool, true, false, cond, List, [], ◌∷◌, ◌++◌, length, Option, Some, None, refl, sym, ap, ◌∙◌, arith, le-leb, leb-true, leb-false, length-append}
+use Rattle.std.proofs.Common.{◌≡◌, ℕ, ◌+◌, ◌-◌, ◌<◌, ◌≤◌, Bool, true, false, cond, List, [], ◌∷◌, ◌++◌, length, Some, None, refl, sym, ap, ◌∙◌, arith, le-leb, leb-true, leb-false, length-append}
 use Rattle.std.specs.Prelude.{nat_le}
 use Rattle.std.proofs.lemmas.Bool.{lt-leb}
 use Rattle.order_event.specs.declared.event.Event.{Event}
 use Rattle.std.specs.List.{AllByRecursion}
 use Rattle.order_event.specs.Spelling.{HasFewMembers}
-use Rattle.gcache_ring.specs.Held.{entry_size, room_beside, total, held}
+use Rattle.gcache_ring.specs.Held.{Ring, entry_size, room_beside, total, held, with_event, with_events}
 
 pub total-append : (xs ys : List Event) → total (xs ++ ys) ≡ total xs + total ys
 total-append [] ys = omega arith
 total-append (x ∷ xs) ys = ap (λ n. entry_size x + n) (total-append xs ys) ∙ omega arith
+
+pub append_none : (xs : List Event) → xs ++ [] ≡ xs
+append_none [] = refl
+append_none (x ∷ xs) = ap (λ (l : List Event). x ∷ l) (append_none xs)
 
 -- events that fit are all held
 pub held-all : (size : ℕ) (xs : List Event) → total xs ≤ size → held size xs ≡ xs
@@ -93,6 +97,43 @@ again_first size x xs e false is rest =
 pub held-again : (size : ℕ) (xs : List Event) (e : Event) → held size (held size xs ++ e ∷ []) ≡ held size (xs ++ e ∷ [])
 held-again size [] e = refl
 held-again size (x ∷ xs) e = again_first size x xs e _ refl (held-again size xs e)
+
+all_again_first : (size : ℕ) (x : Event) (xs ys : List Event) (b : Bool) → nat_le (total (x ∷ xs)) size ≡ b
+    → held size (held size xs ++ ys) ≡ held size (xs ++ ys)
+    → held size (cond b (x ∷ xs) (held size xs) ++ ys) ≡ held size (x ∷ (xs ++ ys))
+all_again_first size x xs ys true is rest = refl
+all_again_first size x xs ys false is rest =
+    let over = leb-false _ _ is in
+    let all = total-append (x ∷ xs) ys in
+    rest ∙ sym (held-less size x (xs ++ ys) (omega arith))
+
+-- and after some more
+pub held-all_again : (size : ℕ) (xs ys : List Event) → held size (held size xs ++ ys) ≡ held size (xs ++ ys)
+held-all_again size [] ys = refl
+held-all_again size (x ∷ xs) ys = all_again_first size x xs ys _ refl (held-all_again size xs ys)
+
+append_one : (xs : List Event) (e : Event) (ys : List Event) → (xs ++ e ∷ []) ++ ys ≡ xs ++ e ∷ ys
+append_one [] e ys = refl
+append_one (x ∷ xs) e ys = ap (λ (l : List Event). x ∷ l) (append_one xs e ys)
+
+-- what is held once one more event was taken of those that are left
+pub held-next : (size : ℕ) (xs : List Event) (e : Event) (ys : List Event)
+    → held size (held size (xs ++ e ∷ []) ++ ys) ≡ held size (xs ++ e ∷ ys)
+held-next size xs e ys = held-all_again size (xs ++ e ∷ []) ys ∙ ap (held size) (append_one xs e ys)
+
+-- a ring whose events fit, and to which these are pushed
+pub with_events-is : (events : List Event) (ring : Ring) → held ring.size ring.events ≡ ring.events
+    → with_events ring events
+    ≡ record { size = ring.size; last = ring.last + length events; events = held ring.size (ring.events ++ events) }
+with_events-is [] ring fits =
+    ap (λ (items : List Event). record { size = ring.size; last = ring.last; events = items })
+    (sym fits ∙ ap (held ring.size) (sym (append_none ring.events)))
+    ∙ ap (λ (last : ℕ). record { size = ring.size; last = last; events = held ring.size (ring.events ++ []) }) (omega arith)
+with_events-is (e ∷ es) ring fits =
+    with_events-is es (with_event ring e) (held-all ring.size (held ring.size (ring.events ++ e ∷ [])) (held-fits ring.size (ring.events ++ e ∷ [])))
+    ∙ ap (λ (items : List Event). record { size = ring.size; last = ring.last + 1 + length es; events = items })
+    (held-next ring.size ring.events e es)
+    ∙ ap (λ (last : ℕ). record { size = ring.size; last = last; events = held ring.size (ring.events ++ e ∷ es) }) (omega arith)
 
 room_case : (size n room : ℕ) (b : Bool) → nat_le n size ≡ b → cond b (Some (size - n)) None ≡ Some room → (n ≤ size) × (size - n ≡ room)
 room_case size n room true is e = (leb-true n size is, cc)

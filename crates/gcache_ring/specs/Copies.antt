@@ -1,5 +1,5 @@
 -- what a call returned is what it is to give, unless memory ran out
-use Rattle.std.specs.Prelude.{◌≡◌, ℕ, List, Option, Result, Ok, Err}
+use Rattle.std.specs.Prelude.{◌≡◌, List, Result, Ok, Err}
 use Rattle.order_event.specs.declared.event.Event.{Event}
 use Rattle.gcache_ring.specs.declared.fault.CopyFault.{CopyFault}
 use Rattle.gcache_ring.specs.declared.fault.CopyFault.TheVariants.{NotHeld, NoMemory}

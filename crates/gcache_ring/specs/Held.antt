@@ -1,5 +1,5 @@
 -- which events a ring of a size holds of those that were pushed
-use Rattle.std.specs.Prelude.{ℕ, ◌+◌, ◌-◌, ◌&&◌, Bool, nat_le, List, [], ◌∷◌, ◌++◌, length, drop, Option, Some, None, Result, Ok, Err, if◌then◌else◌}
+use Rattle.std.specs.Prelude.{ℕ, ◌+◌, ◌-◌, ◌&&◌, nat_le, List, [], ◌∷◌, ◌++◌, length, drop, Option, Some, None, Result, Ok, Err, if◌then◌else◌}
 use Rattle.order_event.specs.declared.event.Event.{Event}
 use Rattle.order_event.specs.Spelling.{event_len}
 use Rattle.gcache_ring.specs.declared.fault.CopyFault.{CopyFault}
@@ -41,6 +41,11 @@ empty_ring size at = record { size = size; last = at; events = [] }
 abbrev pub with_event : Ring → Event → Ring
 with_event ring event =
     record ring { last = ring.last + 1; events = held ring.size (ring.events ++ event ∷ []) }
+
+-- more events are pushed, one after another
+abbrev pub with_events : Ring → List Event → Ring
+with_events ring [] = ring
+with_events ring (event ∷ events) = with_events (with_event ring event) events
 
 -- the numbers of the oldest and the youngest of these events
 abbrev pub range_to : ℕ → List Event → Option (ℕ × ℕ)

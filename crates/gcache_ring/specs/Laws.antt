@@ -1,5 +1,5 @@
 -- the events that are held are the longest suffix that fits
-use Rattle.std.specs.Prelude.{◌≡◌, ℕ, ◌<◌, ◌≤◌, List, [], ◌∷◌, ◌++◌, length}
+use Rattle.std.specs.Prelude.{◌≡◌, ℕ, ◌≤◌, List, [], ◌∷◌, ◌++◌, length}
 use Rattle.order_event.specs.declared.event.Event.{Event}
 use Rattle.gcache_ring.specs.Held.{total, held}
 

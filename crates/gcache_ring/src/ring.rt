@@ -1,8 +1,8 @@
-ghost use Rattle.std.specs.Prelude.{◌≡◌, ◌+◌, ◌<◌, ◌≤◌, ◌^◌, [], length, drop, IfOk, IsOk, OnOk, OnErr};
+ghost use Rattle.std.specs.Prelude.{◌≡◌, ◌+◌, ◌<◌, ◌≤◌, ◌^◌, [], ◌∷◌, ◌++◌, length, drop, IfOk, IsOk, OnOk, OnErr};
 ghost use Rattle.std.specs.List.{AllByRecursion};
 ghost use Rattle.std.specs.VecDeque.{deque_len, deque_capacity};
 ghost use Rattle.order_event.specs.Spelling.{HasFewMembers};
-ghost use Rattle.gcache_ring.specs.Held.{room_beside, total, held, empty_ring, with_event, range_of, copy_of};
+ghost use Rattle.gcache_ring.specs.Held.{room_beside, total, held, empty_ring, with_event, with_events, range_of, copy_of};
 ghost use Rattle.gcache_ring.specs.Copies.{Copies};
 
 use crate::fault::CopyFault;
@@ -61,6 +61,16 @@ impl Ring {
         })
     }
 
+    /// From here on it holds nothing; the next event pushed is the one behind `at`. It takes no
+    /// memory.
+    pub fn restart(&mut self, at: u64)
+        ensures { self.new ≡ empty_ring self.old.size at }
+    {
+        self.events.clear();
+        self.used = 0;
+        self.last = at;
+    }
+
     /// Pushes the next event. The oldest ones go until the rest fits; one that is larger than the
     /// ring leaves it empty. It costs what is pushed and what goes.
     pub fn push(&mut self, event: &Event) -> Result<(), AllocError>
@@ -81,6 +91,21 @@ impl Ring {
         self.events.push_back_reserved(event);
         self.used += self.size - room;
         self.last += 1;
+        Ok(())
+    }
+
+    /// Pushes the events one after another, or none of them. It costs what is pushed and what goes.
+    pub fn extend(&mut self, events: &EventList) -> Result<(), AllocError>
+        requires number { self.old.last + length events.now < 2 ^ 64 }
+        requires members { AllByRecursion HasFewMembers events.now }
+        ensures ok { OnOk result (self.new ≡ with_events self.old events.now) }
+        ensures err { OnErr result (self.new ≡ self.old) }
+    {
+        let mut more = VecDeque::new(*self.events.allocator());
+        copy_all(&mut more, events.as_slice())?;
+        self.events.reserve(more.len())?;
+        self.used = put_all(&mut self.events, self.used, self.size, more);
+        self.last += events.len() as u64;
         Ok(())
     }
 
@@ -135,6 +160,60 @@ fn drop_oldest(events: &mut VecDeque<Event>, used: u64, limit: u64) -> u64
         }
     }
     left
+}
+
+// Copies of the events, in their order, behind what is there.
+fn copy_all(copies: &mut VecDeque<Event>, events: &[Event]) -> Result<(), AllocError>
+    ensures { OnOk result (copies.new.items ≡ copies.old.items ++ events.now) }
+{
+    for event in events {
+        copies.push_back(event.copy()?)?;
+    }
+    Ok(())
+}
+
+// Pushes the events, for which there is room. Gives what those that are held sum to.
+fn put_all(events: &mut VecDeque<Event>, used: u64, size: u64, more: VecDeque<Event>) -> u64
+    requires used { used ≡ total events.old.items }
+    requires fits { used ≤ size }
+    requires few { AllByRecursion HasFewMembers events.old.items }
+    requires members { AllByRecursion HasFewMembers more.items }
+    requires room { deque_len events.old + deque_len more ≤ deque_capacity events.old }
+    ensures held { events.new.items ≡ held size (events.old.items ++ more.items) }
+    ensures used { result ≡ total events.new.items }
+    ensures fits { result ≤ size }
+    ensures few { AllByRecursion HasFewMembers events.new.items }
+    ensures fewer { length events.new.items ≤ length events.old.items + length more.items }
+{
+    let mut sum = used;
+    let mut left = more;
+    while let Some(event) = left.pop_front() {
+        sum = put(events, sum, size, event);
+    }
+    sum
+}
+
+// Pushes one event, for which there is room.
+fn put(events: &mut VecDeque<Event>, used: u64, size: u64, event: Event) -> u64
+    requires used { used ≡ total events.old.items }
+    requires fits { used ≤ size }
+    requires few { AllByRecursion HasFewMembers events.old.items }
+    requires members { HasFewMembers event }
+    requires room { deque_len events.old < deque_capacity events.old }
+    ensures held { events.new.items ≡ held size (events.old.items ++ event ∷ []) }
+    ensures used { result ≡ total events.new.items }
+    ensures fits { result ≤ size }
+    ensures few { AllByRecursion HasFewMembers events.new.items }
+    ensures fewer { deque_len events.new ≤ deque_len events.old + 1 }
+    ensures room { deque_capacity events.new ≡ deque_capacity events.old }
+{
+    let Some(room) = room_beside(size, &event) else {
+        events.clear();
+        return 0;
+    };
+    let left = drop_oldest(events, used, room);
+    events.push_back_reserved(event);
+    left + (size - room)
 }
 
 // The events from this index on.

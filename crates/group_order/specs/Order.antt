@@ -1,6 +1,6 @@
--- the order of events: how it starts, its n-th event, what a message becomes in it, and the view
--- that a member leaves behind
-use Rattle.std.specs.Prelude.{ℕ, zero, suc, ◌==◌, not, List, [], ◌∷◌, ◌++◌, fold, slice_get, Option, None}
+-- the order of events: how it starts, its n-th event, what a message becomes in it, and the views
+-- that a member leaves behind and that a new one enters with
+use Rattle.std.specs.Prelude.{ℕ, zero, suc, ◌+◌, ◌==◌, not, max, List, [], ◌∷◌, ◌++◌, fold, slice_get, Option, None}
 use Rattle.std.specs.List.{filter}
 use Rattle.order_event.specs.declared.event.Event.{Event}
 use Rattle.order_event.specs.declared.event.Event.TheVariants.{Write, View, Report}
@@ -43,3 +43,24 @@ all_but member members = filter (λ other. not (other == member)) members
 -- the last view without a member
 abbrev pub view_without : List Event → ℕ → Event
 view_without order member = View (last_view order).0 (all_but member (last_view order).1)
+
+-- the greatest of some members; 0 where there is none
+abbrev pub greatest_member : List ℕ → ℕ
+greatest_member members = fold max 0 members
+
+abbrev pub later_member : ℕ → Event → ℕ
+later_member last (Write member body) = last
+later_member last (View version members) = max last (greatest_member members)
+later_member last (Report member number) = last
+
+-- the greatest member of any view; 0 where there is none
+abbrev pub last_member : List Event → ℕ
+last_member order = fold later_member 0 order
+
+-- the number of a new member, which no view had before
+abbrev pub new_member : List Event → ℕ
+new_member order = last_member order + 1
+
+-- the last view with one member more
+abbrev pub view_with : List Event → ℕ → Event
+view_with order member = View (last_view order).0 ((last_view order).1 ++ member ∷ [])

@@ -1,6 +1,6 @@
 ghost use Rattle.std.specs.Prelude.{◌≡◌, ℕ, ◌<◌, List, [], ◌∷◌, ◌++◌, length, IsSome, IfOk, IfErr, OnOk, OnErr};
 ghost use Rattle.order_event.specs.declared.event.Event.{Event};
-ghost use Rattle.group_order.specs.Order.{event_at, event_of, view_without};
+ghost use Rattle.group_order.specs.Order.{event_at, event_of, view_without, view_with, new_member};
 ghost use Rattle.group_order.specs.Causes.{HasCause, AtNoMemory};
 
 use crate::GroupFault;
@@ -42,6 +42,18 @@ pub trait Group: Drop {
         ensures ok { OnOk result
             (order self.new ≡ order self.old ++ view_without (order self.old) member ∷ []) }
         ensures number { IfOk result (λ number. number ≡ length (order self.new)) }
+        ensures err { OnErr result (order self.new ≡ order self.old) }
+        ensures cause { HasCause (faults self.old) (faults self.new) result };
+
+    /// Appends the last view with a new member behind its members, and gives the view's number and
+    /// the member's, which no view had before. After a fault the order is the same.
+    fn join(&mut self) -> Result<(u64, u32), GroupFault>
+        requires { length (order self.old) < 500_000 }
+        ensures ok { OnOk result
+            (order self.new
+            ≡ order self.old ++ view_with (order self.old) (new_member (order self.old)) ∷ []) }
+        ensures number { IfOk result (λ joined. joined.0 ≡ length (order self.new)) }
+        ensures member { IfOk result (λ joined. joined.1 ≡ new_member (order self.old)) }
         ensures err { OnErr result (order self.new ≡ order self.old) }
         ensures cause { HasCause (faults self.old) (faults self.new) result };
 }

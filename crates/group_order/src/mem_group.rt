@@ -14,6 +14,8 @@ pub struct MemGroup {
     /// The version and the members of the last view.
     version: u32,
     members: MemberList,
+    /// The greatest member of any view.
+    last: u32,
 }
 
 impl Model for MemGroup {
@@ -24,10 +26,13 @@ impl Model for MemGroup {
 
     ghost view = { λ group. group.events };
 
-    ghost use Rattle.std.specs.Prelude.{◌≡◌};
-    ghost use Rattle.group_order.specs.Order.{last_view};
+    ghost use Rattle.std.specs.Prelude.{◌≡◌, ◌≤◌, ◌+◌, length};
+    ghost use Rattle.group_order.specs.Order.{last_view, last_member};
 
-    ghost invariant = { λ group. last_view group.events ≡ (group.version, group.members) };
+    ghost invariant = { λ group.
+        (last_view group.events ≡ (group.version, group.members))
+        × (last_member group.events ≡ group.last)
+        × (group.last ≤ 9 + length group.events) };
 }
 
 impl MemGroup {
@@ -51,6 +56,7 @@ impl MemGroup {
             events,
             version: 1,
             members: members_to(alloc, members)?,
+            last: members,
         })
     }
 }
@@ -85,6 +91,19 @@ impl Group for MemGroup {
         })?;
         self.members = members;
         Ok(self.events.len() as u64)
+    }
+
+    fn join(&mut self) -> Result<(u64, u32), GroupFault> {
+        let member = self.last + 1;
+        let mut members = self.members.copy()?;
+        members.push(member)?;
+        self.events.push(Event::View {
+            version: self.version,
+            members: members.copy()?,
+        })?;
+        self.members = members;
+        self.last = member;
+        Ok((self.events.len() as u64, member))
     }
 }
 

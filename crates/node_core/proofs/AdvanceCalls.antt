@@ -36,6 +36,8 @@ use Rattle.node_meaning.proofs.UnitLaws.{rows-event, rows-committer, task-unit}
 use Rattle.node_meaning.proofs.AdvanceFacts.{committer_there, commits_at, rows-none, committer-none, not_local, unit-finished, units-local}
 use Rattle.node_parts.specs.Units.{Work, UnitTable, without, done_of, rows_of}
 use Rattle.node_core.specs.declared.node.NodeParts.{NodeParts}
+use Rattle.node_core.proofs.Standing.{serves_by}
+use Rattle.node_meaning.specs.Node.{is_connected}
 use Rattle.node_core.specs.Tabled.{Tabled}
 use Rattle.node_core.specs.Advancing.{AreFree, results_of, TakesUnit, IsCommitted, AfterCommitter}
 use Rattle.node_core.specs.Watching.{noted, note_at}
@@ -319,6 +321,11 @@ module _ (order : List Event) (old : NodeParts) (stands : Stands order old) wher
             certification = subst (λ (p : ℕ). Certifies order p target.at.certified target.certification) (sym committed_is)
                 (subst (λ (c : ℕ). Certifies order next c target.certification) (sym certified_is) certifies);
             tables = subst (Tables order) (sym target_is) committed_tables;
+            serves = serves_by order old target (record {
+              ring = ap (λ (m : NodeParts). m.ring) target_is;
+              since = ap (λ (m : NodeParts). m.since) target_is;
+              id = ap (λ (m : NodeParts). m.id) target_is;
+            }) (ap (λ (m : NodeParts). m.at.taken) target_is) (λ is. ap (λ (m : NodeParts). is_connected m.at.phase) (sym target_is) ∙ is) stands.serves;
             facts = facts_advanced order old target stands (answer.At next) same;
           };
         }

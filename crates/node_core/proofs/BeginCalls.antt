@@ -30,6 +30,9 @@ use Rattle.node_meaning.proofs.KillOrder.{kills-touching}
 use Rattle.node_meaning.proofs.LockLaws.{keys_of_unit, keys_at-session, keys_at-unit}
 use Rattle.node_laws.proofs.UnitMoves.{CanTakeBack}
 use Rattle.node_core.specs.declared.node.NodeParts.{NodeParts}
+use Rattle.node_core.proofs.Standing.{serves_by, rings_kept, unchanged_ring}
+use Rattle.node_core.specs.Stands.{KeepsRing}
+use Rattle.node_meaning.specs.Node.{is_connected}
 use Rattle.node_core.specs.Tabled.{Tabled}
 use Rattle.node_core.proofs.KeptFacts.{facts_started}
 use Rattle.node_core.specs.Stands.{AreWorked, IsWorked, DoneOver, Unchanged, plain_of}
@@ -116,6 +119,9 @@ module _ (order : List Event) (old mid killed : NodeParts) (number : ℕ) (keys 
   at_is : killed.at ≡ record old.at { serial = old.at.serial + length sent }
   at_is = kills.at ∙ ap (λ (m : ModelNode). (with_sent m sent).at) unchanged.plain
 
+  entered_ring : KeepsRing old (entered mid number keys rows sent)
+  entered_ring = let same = unchanged_ring old mid unchanged in record { ring = same.ring; since = same.since; id = same.id }
+
   live_is : mid.live ≡ old.live
   live_is = ap (λ (m : ModelNode). m.live) unchanged.plain
 
@@ -200,6 +206,9 @@ module _ (order : List Event) (old mid killed : NodeParts) (number : ℕ) (keys 
           units = subst (AreWorked order) (sym killed_units) (worked_added order old.units number keys rows can.stands.tables.units count);
           room = omega (arith, room_is, room, kills.room);
         };
+        serves = serves_by order old (record killed { locks = locks })
+            (rings_kept old (entered mid number keys rows sent) (record killed { locks = locks }) entered_ring (record { ring = kills.ring.ring; since = kills.ring.since; id = kills.ring.id }))
+            (ap (λ (a : Progress). a.taken) at_is) (λ is. ap (λ (a : Progress). is_connected a.phase) (sym at_is) ∙ is) can.stands.serves;
         facts = facts back;
       };
     }

@@ -23,6 +23,7 @@ use Rattle.node_meaning.proofs.EntryLaws.{entry_found, some_not_none}
 use Rattle.node_meaning.proofs.LockLaws.{locks_of-same, locks_of-remove}
 use Rattle.order_event.specs.declared.event.Event.{Event}
 use Rattle.node_core.specs.declared.node.NodeParts.{NodeParts}
+use Rattle.node_core.proofs.Standing.{ring_by}
 use Rattle.node_core.specs.Tabled.{Tabled, made_by}
 use Rattle.node_core.specs.Stands.{Tables, Moves, AreWorked, plain_of}
 use Rattle.node_core.proofs.Tabling.{made-alike, put_at, ended_at, tabled-cleared, tabled-left}
@@ -93,7 +94,7 @@ module _ (old : NodeParts) (begin number : ℕ) (v : Verdict) where
   tells n = told_verdict n number v (session_of n.live begin)
 
   stays : told_verdict (plain_of old) number v (session_of old.live begin) ≡ plain_of old → Moves tells old old
-  stays same = record { plain = sym same; inbox = refl; certification = refl; tables = λ order tables. tables }
+  stays same = record { plain = sym same; inbox = refl; ring = ring_by old old refl; certification = refl; tables = λ order tables. tables }
 
   -- no transaction has the number
   pub tell_none : option_map (λ e. e.0) (session_of old.live begin) ≡ None → Moves tells old old
@@ -136,6 +137,7 @@ module _ (old : NodeParts) (begin number : ℕ) (v : Verdict) where
             subst (λ l. Moves tells old (record old { live = l })) (sym now) (record {
               plain = sym (by_status true sent ∙ ap (told (plain_of old) session) (sym judged));
               inbox = refl;
+              ring = record { ring = refl; since = refl; id = refl };
               certification = refl;
               tables = λ order tables. record {
                 locks = subst (HoldAlike old.locks.locks) (sym (locks_of-same old.live old.units.units session t u is same.locks same.keys)) tables.locks;
@@ -158,6 +160,11 @@ module _ (old : NodeParts) (begin number : ℕ) (v : Verdict) where
               ∙ sym (ap plain_of is_new ∙ ap (λ l. record (plain_of old) { live = l; waiting = new.waiting }) live
               ∙ ap (λ w. record (plain_of old) { live = remove old.live session; waiting = w }) waiting));
           inbox = ap (λ (n : NodeParts). n.inbox) is_new;
+          ring = record {
+            ring = ap (λ (n : NodeParts). n.ring) is_new;
+            since = ap (λ (n : NodeParts). n.since) is_new;
+            id = ap (λ (n : NodeParts). n.id) is_new;
+          };
           certification = ap (λ (n : NodeParts). n.certification) is_new;
           tables = λ order tables. ended order tables;
         }

@@ -19,6 +19,9 @@ use Rattle.node_meaning.specs.Node.{ModelNode}
 use Rattle.node_meaning.specs.Steps.{told, told_own, told_verdict, told_event, session_of, verdict_of, certify_event, certify_step}
 use Rattle.node_meaning.proofs.EntryLaws.{less_from, some_not_none}
 use Rattle.node_core.specs.declared.node.NodeParts.{NodeParts}
+use Rattle.node_core.specs.Stands.{KeepsRing}
+use Rattle.node_core.proofs.Standing.{serves_by, rings_kept}
+use Rattle.node_meaning.specs.Node.{is_connected}
 use Rattle.node_core.specs.Certifying.{is_write_of, told_if}
 use Rattle.node_core.proofs.KeptFacts.{facts_certified}
 use Rattle.node_core.specs.Stands.{Stands, Tables, Moves, DoneOver, plain_of}
@@ -140,6 +143,13 @@ module _ (order : List Event) (old : NodeParts) (stands : Stands order old) wher
       committed_is : new.at.committed ≡ old.at.committed
       committed_is = ap (λ (a : _). a.committed) new_at
 
+      mid_ring : KeepsRing old mid
+      mid_ring = record {
+        ring = ap (λ (m : NodeParts). m.ring) mid_is;
+        since = ap (λ (m : NodeParts). m.since) mid_is;
+        id = ap (λ (m : NodeParts). m.id) mid_is;
+      }
+
       mid_tables : Tables order mid
       mid_tables = subst (Tables order) (sym mid_is) (record {
         locks = stands.tables.locks;
@@ -159,6 +169,7 @@ module _ (order : List Event) (old : NodeParts) (stands : Stands order old) wher
               (subst (λ (c : ℕ). Certifies order old.at.committed c new.certification) (sym certified_is)
               (subst (Certifies order old.at.committed (old.at.certified + 1)) (sym moves.certification) next.certifies));
           tables = moves.tables order mid_tables;
+          serves = serves_by order old new (rings_kept old mid new mid_ring moves.ring) taken_is (λ is. ap (λ (a : _). is_connected a.phase) (sym new_at) ∙ is) stands.serves;
           facts = facts_certified order old new stands (answer.Judged (old.at.certified + 1) became) same;
         };
       }

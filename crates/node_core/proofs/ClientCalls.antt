@@ -19,7 +19,7 @@ use Rattle.client_trx.specs.declared.status.Status.TheVariants as status
 use Rattle.row_locks.specs.declared.holder.Holder.TheVariants.{Session}
 use Rattle.row_locks.proofs.AlikeLaws.{alike_between, alike-remove}
 use Rattle.undo_rows.specs.RowTable.{RowTable, without}
-use Rattle.node_meaning.specs.Node.{ModelNode, rows_at, locks_of, end_live, send_any, taken_back}
+use Rattle.node_meaning.specs.Node.{ModelNode, is_connected, rows_at, locks_of, end_live, send_any, taken_back}
 use Rattle.node_meaning.specs.Client.{begin_call, commit_call, send_commit, rollback_call}
 use Rattle.node_meaning.specs.Facts.{Facts, ProgressInRange}
 use Rattle.node_meaning.proofs.LockLaws.{lock_keys, lock_of_live, locks_of-remove, locks_of-replace, locks_of-same}
@@ -28,19 +28,22 @@ use Rattle.node_core.specs.Client.{sends_commit, sends_rollback}
 use Rattle.node_core.specs.Sending.{node_sent, node_sent_any, with_commit}
 use Rattle.node_core.specs.Tabled.{Tabled, made_by}
 use Rattle.node_core.proofs.KeptFacts.{facts_ended, facts_begun, facts_rolled_back, facts_sent}
-use Rattle.node_core.specs.Stands.{Stands, Tables, AreWorked, Unchanged, Moves, DoneOver, plain_of}
+use Rattle.node_core.specs.Stands.{Stands, KeepsRing, Tables, AreWorked, Unchanged, Moves, DoneOver, plain_of}
+use Rattle.node_core.proofs.Standing.{serves_by, rings_kept, ring_by, unchanged_ring}
 use Rattle.node_core.proofs.Tabling.{same_tabled, made-alike, put_at, ended_at, tabled-cleared, tabled-left}
 
 -- ---- what a node stands for goes along where its parts do
 pub stands_by : (order : List Event) (old new : NodeParts) → Stands order old → new.at.committed ≡ old.at.committed
-    → new.at.certified ≡ old.at.certified → new.at.taken ≡ old.at.taken → new.inbox ≡ old.inbox
+    → new.at.certified ≡ old.at.certified → new.at.taken ≡ old.at.taken
+    → (is_connected new.at.phase ≡ true → is_connected old.at.phase ≡ true) → KeepsRing old new → new.inbox ≡ old.inbox
     → new.certification ≡ old.certification → Tables order new → Facts order (plain_of new) → Stands order new
-stands_by order old new st committed certified taken inbox same tables facts = record {
+stands_by order old new st committed certified taken connected ring inbox same tables facts = record {
   inbox = inbox ∙ st.inbox ∙ (λ i. drop (sym certified i) (take (sym taken i) order));
   certification = subst (λ (p : ℕ). Certifies order p new.at.certified new.certification) (sym committed)
       (subst (λ (c : ℕ). Certifies order old.at.committed c new.certification) (sym certified)
       (subst (Certifies order old.at.committed old.at.certified) (sym same) st.certification));
   tables = tables;
+  serves = serves_by order old new ring taken connected st.serves;
   facts = facts;
 }
 
@@ -52,7 +55,8 @@ unchanged_stands order old new same st =
     let unit_room = same.unit_room in
     let more = same.room in
     stands_by order old new st (ap (λ (n : ModelNode). n.at.committed) same.plain) (ap (λ (n : ModelNode). n.at.certified) same.plain)
-    (ap (λ (n : ModelNode). n.at.taken) same.plain) same.inbox same.certification
+    (ap (λ (n : ModelNode). n.at.taken) same.plain) (λ is. ap (λ (n : ModelNode). is_connected n.at.phase) (sym same.plain) ∙ is)
+    (unchanged_ring old new same) same.inbox same.certification
     (record {
       locks = alike_between _ _ _ _ same.locks st.tables.locks (ap (λ (n : ModelNode). locks_of n.live n.units) (sym same.plain));
       rows = subst (λ (n : ModelNode). Tabled (rows_at order n.at.committed) n.live new.rows) (sym same.plain)
@@ -85,6 +89,7 @@ pub same_unchanged : (old new : NodeParts) → new ≡ old → Unchanged old new
 same_unchanged old new same = subst (Unchanged old) (sym same) (record {
   plain = refl;
   inbox = refl;
+  ring = refl;
   certification = refl;
   work = refl;
   unit_room = refl;
@@ -103,13 +108,14 @@ running_status status.KilledSent h = cc
 running_status (status.Replaying n) h = cc
 
 -- ---- a transaction ends
-pub moves_ended : (old new : NodeParts) (s : ℕ) → plain_of new ≡ end_live (plain_of old) s → new.inbox ≡ old.inbox
+pub moves_ended : (old new : NodeParts) (s : ℕ) → plain_of new ≡ end_live (plain_of old) s → KeepsRing old new → new.inbox ≡ old.inbox
     → new.certification ≡ old.certification → new.units ≡ old.units → new.locks.locks ≡ remove old.locks.locks (Session s)
     → new.rows.committed ≡ old.rows.committed → new.rows.changes ≡ without old.rows.changes s → old.rows.spare ≤ new.rows.spare
     → Moves (λ n. end_live n s) old new
-moves_ended old new s plain inbox same units locks committed changes spare = record {
+moves_ended old new s plain ring inbox same units locks committed changes spare = record {
   plain = plain;
   inbox = inbox;
+  ring = ring;
   certification = same;
   tables = λ order tables.
       let had = tables.room in
@@ -130,6 +136,7 @@ pub ended_stands : (order : List Event) (old new : NodeParts) (s : ℕ) → Move
 ended_stands order old new s moves st =
     stands_by order old new st (ap (λ (n : ModelNode). n.at.committed) moves.plain)
     (ap (λ (n : ModelNode). n.at.certified) moves.plain) (ap (λ (n : ModelNode). n.at.taken) moves.plain)
+    (λ is. ap (λ (n : ModelNode). is_connected n.at.phase) (sym moves.plain) ∙ is) moves.ring
     moves.inbox moves.certification (moves.tables order st.tables)
     (facts_ended order old new st s moves.plain)
 
@@ -149,6 +156,14 @@ sent_any_inbox node (Some w) = refl
 sent_any_certification : (node : NodeParts) (o : Option WriteSet) → (node_sent_any node o).certification ≡ node.certification
 sent_any_certification node None = refl
 sent_any_certification node (Some w) = refl
+
+sent_any_ring : (node : NodeParts) (o : Option WriteSet) → KeepsRing node (node_sent_any node o)
+sent_any_ring node None = ring_by node node refl
+sent_any_ring node (Some w) = record { ring = refl; since = refl; id = refl }
+
+sent_any_phase : (n : ModelNode) (o : Option WriteSet) → (send_any n o).at.phase ≡ n.at.phase
+sent_any_phase n None = refl
+sent_any_phase n (Some w) = refl
 
 sent_any_at : (n : ModelNode) (o : Option WriteSet) → ((send_any n o).at.committed ≡ n.at.committed)
     × ((send_any n o).at.certified ≡ n.at.certified) × ((send_any n o).at.taken ≡ n.at.taken)
@@ -170,6 +185,8 @@ rolled_back order old mid new s t due is range due_is mid_is moves st =
       same = ap (λ n. (reply.RolledBack, n)) plain ∙ ap (rollback_call (plain_of old) s) (sym is);
       stands = stands_by order old new st (ap (λ (n : ModelNode). n.at.committed) plain ∙ at.0)
           (ap (λ (n : ModelNode). n.at.certified) plain ∙ at.1) (ap (λ (n : ModelNode). n.at.taken) plain ∙ at.2)
+          (λ is. ap is_connected (sym (ap (λ (n : ModelNode). n.at.phase) plain ∙ sent_any_phase (plain_of old) w)) ∙ is)
+          (rings_kept old mid new (subst (KeepsRing old) (sym sent) (sent_any_ring old w)) moves.ring)
           (moves.inbox ∙ ap (λ (n : NodeParts). n.inbox) sent ∙ sent_any_inbox old w)
           (moves.certification ∙ ap (λ (n : NodeParts). n.certification) sent ∙ sent_any_certification old w)
           (moves.tables order (subst (Tables order) (sym sent) (sent_any_tables order old w st.tables)))
@@ -208,10 +225,10 @@ no_lock : lock_keys true empty ≡ None
 no_lock = ap (λ n. cond (n == 0) None (Some empty)) (len-empty parts_cmp Kind)
 
 pub began : (order : List Event) (old new : NodeParts) (s unit : ℕ) → get old.live s ≡ None
-    → plain_of new ≡ (begin_call (plain_of old) s unit None).1 → new.inbox ≡ old.inbox → new.certification ≡ old.certification
+    → plain_of new ≡ (begin_call (plain_of old) s unit None).1 → KeepsRing old new → new.inbox ≡ old.inbox → new.certification ≡ old.certification
     → new.units ≡ old.units → new.locks ≡ old.locks → new.rows ≡ old.rows → Stands order old
     → DoneOver order (λ n. begin_call n s unit (get n.live s)) old new reply.Done
-began order old new s unit free plain inbox same units locks rows st =
+began order old new s unit free plain ring inbox same units locks rows st =
     let t = begun (record { member = old.at.member; begin = old.at.begin }) unit in
     let had = st.tables.room in
     let same_room : new.units.room ≡ old.units.room = ap (λ u. u.room) units in
@@ -220,7 +237,7 @@ began order old new s unit free plain inbox same units locks rows st =
       same = ap (λ n. (reply.Done, n)) plain ∙ ap (begin_call (plain_of old) s unit) (sym free);
       stands = stands_by order old new st (ap (λ (n : ModelNode). n.at.committed) plain)
           (ap (λ (n : ModelNode). n.at.certified) plain) (ap (λ (n : ModelNode). n.at.taken) plain)
-          inbox same
+          (λ is. ap (λ (n : ModelNode). is_connected n.at.phase) (sym plain) ∙ is) ring inbox same
           (record {
             locks = alike_between _ _ _ _ (ap (λ l. l.locks) locks) st.tables.locks
                 (sym (locks_of-replace old.live old.units.units s t (ap lock_of_live free ∙ sym no_lock))
@@ -277,6 +294,8 @@ commit_sent order old new s t is running some range new_is st =
       same = done ∙ ap (commit_call (plain_of old) s) (sym is);
       stands = stands_by order old new st (ap (λ (n : NodeParts). n.at.committed) new_is)
           (ap (λ (n : NodeParts). n.at.certified) new_is) (ap (λ (n : NodeParts). n.at.taken) new_is)
+          (λ is. ap (λ (n : NodeParts). is_connected n.at.phase) (sym new_is) ∙ is)
+          (rings_kept old (after_commit old s t) new (record { ring = refl; since = refl; id = refl }) (ring_by (after_commit old s t) new new_is))
           (ap (λ (n : NodeParts). n.inbox) new_is) (ap (λ (n : NodeParts). n.certification) new_is)
           (record {
             locks = alike_between _ _ _ _ (ap (λ (n : NodeParts). n.locks.locks) new_is) st.tables.locks

@@ -18,6 +18,7 @@ use Rattle.node_meaning.specs.Units.{unit_task}
 use Rattle.node_meaning.proofs.LockLaws.{locks_of-same_unit}
 use Rattle.node_parts.specs.Units.{Work, UnitTable, finished, finished_unit, finished_work, is_started, is_started_stage}
 use Rattle.node_core.specs.declared.node.NodeParts.{NodeParts}
+use Rattle.node_core.proofs.Standing.{serves_by}
 use Rattle.node_core.proofs.KeptFacts.{facts_finished}
 use Rattle.node_core.specs.Stands.{Stands, Tables, AreWorked, IsWorked, DoneOver, plain_of}
 
@@ -117,6 +118,7 @@ module _ (order : List Event) (node : NodeParts) (done : ModelTask) (stands : St
           inbox = stands.inbox;
           certification = stands.certification;
           tables = tables own.0 own.1;
+          serves = serves_by order node after (record { ring = refl; since = refl; id = refl }) refl (λ is. is) stands.serves;
           facts = facts_finished order node after stands done.number (answer.Finished done.number) same;
         };
       }

@@ -12,6 +12,7 @@ use Rattle.node_meaning.specs.Node.{ApplyUnit, rows_at}
 use Rattle.node_meaning.specs.Units.{ops_at, rows_before, unit_task, images_of, named_rows}
 use Rattle.node_meaning.proofs.GrowFacts.{facts_grow, ops_at-append}
 use Rattle.node_parts.specs.Units.{Work}
+use Rattle.gcache_ring.specs.Held.{Ring, held}
 use Rattle.node_core.specs.declared.node.NodeParts.{NodeParts}
 use Rattle.node_core.specs.Tabled.{Tabled}
 use Rattle.node_core.specs.Stands.{Stands, AreWorked, IsWorked, HasTask}
@@ -67,6 +68,16 @@ module _ (order more : List Event) where
       rows = subst (λ rows. Tabled rows node.live node.rows) (sym (rows_at-append node.at.committed (committed_fits node st))) st.tables.rows;
       units = units-append node st;
       room = st.tables.room;
+    };
+    serves = record {
+      ring = st.serves.ring
+          ∙ ap (λ (events : List Event). record {
+            size = node.ring.size;
+            last = node.at.taken;
+            events = held node.ring.size (drop node.since events);
+          }) (sym (take-append-le node.at.taken order more st.facts.in_order.taken_fits));
+      since = st.serves.since;
+      id = st.serves.id;
     };
     facts = facts_grow order more _ st.facts;
   }

@@ -22,6 +22,7 @@ use Rattle.node_meaning.specs.Node.{ModelNode, locks_of}
 use Rattle.node_meaning.specs.Steps.{told, ended_session, end_killed}
 use Rattle.node_meaning.proofs.LockLaws.{lock_keys, locks_of-remove, locks_of-unlocked}
 use Rattle.node_core.specs.declared.node.NodeParts.{NodeParts}
+use Rattle.node_core.proofs.Standing.{rings_kept}
 use Rattle.node_core.specs.Tabled.{Tabled, changes_row}
 use Rattle.node_core.specs.Stands.{plain_of}
 use Rattle.node_core.specs.Starting.{Aborts}
@@ -56,6 +57,7 @@ kill_none old live number s none taken =
           ∙ ap (ended_session number (plain_of old) s) (sym none);
       at = refl;
       inbox = refl;
+      ring = record { ring = refl; since = refl; id = refl };
       certification = refl;
       units = refl;
       spare = omega arith;
@@ -76,6 +78,7 @@ module _ (old : NodeParts) (number s : ℕ) (t : Live) (locks : LockState) (rows
         ∙ ap (told (plain_of old) s) is ∙ ap (ended_session number (plain_of old) s) (sym there);
     at = refl;
     inbox = refl;
+    ring = record { ring = refl; since = refl; id = refl };
     certification = refl;
     units = refl;
     spare = spare;
@@ -110,6 +113,7 @@ module _ (old : NodeParts) (number s : ℕ) (t : Live) (locks : LockState) (rows
             ∙ ap (told (plain_of old) s) killed ∙ ap (ended_session number (plain_of old) s) (sym there);
         at = refl;
         inbox = refl;
+        ring = record { ring = refl; since = refl; id = refl };
         certification = refl;
         units = refl;
         spare = spare;
@@ -128,6 +132,7 @@ no_aborts node = record {
   plain = refl;
   at = refl;
   inbox = refl;
+  ring = record { ring = refl; since = refl; id = refl };
   certification = refl;
   units = refl;
   spare = omega arith;
@@ -141,6 +146,7 @@ more_aborts f g a b c one two = record {
   plain = two.plain ∙ ap g one.plain;
   at = two.at ∙ one.at;
   inbox = two.inbox ∙ one.inbox;
+  ring = rings_kept a b c one.ring two.ring;
   certification = two.certification ∙ one.certification;
   units = two.units ∙ one.units;
   spare = omega (arith, one.spare, two.spare);
@@ -160,6 +166,7 @@ kills_more number sessions i d a b c below so_far one =
       plain = both.plain ∙ sym (fold_more (end_killed number) (plain_of a) sessions i d below);
       at = both.at;
       inbox = both.inbox;
+      ring = both.ring;
       certification = both.certification;
       units = both.units;
       spare = both.spare;

@@ -1,5 +1,5 @@
 -- What leaving makes of the sessions and the other parts of a node.
-use Rattle.std.proofs.Common.{◌≡◌, ◌⊎◌, ℕ, ◌+◌, ◌<◌, ◌≤◌, Bool, true, false, cond, eqb, eqb-true, inl, inr, List, [], ◌∷◌, ◌++◌, Option, None, Some, refl, ap, sym, subst, ◌∙◌, arith, get_or, take, drop}
+use Rattle.std.proofs.Common.{true≢false, ◌≡◌, ◌⊎◌, ℕ, ◌+◌, ◌<◌, ◌≤◌, Bool, true, false, cond, eqb, eqb-true, inl, inr, List, [], ◌∷◌, ◌++◌, Option, None, Some, refl, ap, sym, subst, ◌∙◌, arith, get_or, take, drop}
 use Rattle.std.specs.Prelude.{T, ◌&&◌, fold, map}
 use Rattle.std.specs.List.{filter_map, list_any, AllByRecursion}
 use Rattle.std.specs.Ordering.{nat_cmp}
@@ -28,6 +28,8 @@ use Rattle.node_meaning.specs.Leaving.{is_commit_of, waits_in, where_untaken, to
 use Rattle.node_meaning.proofs.EntryLaws.{in_from_get, get_from_in}
 use Rattle.node_laws.proofs.Leaving.{facts_left}
 use Rattle.node_core.specs.declared.node.NodeParts.{NodeParts}
+use Rattle.node_core.specs.Stands.{KeepsRing}
+use Rattle.node_core.proofs.Standing.{ring_by, rings_kept}
 use Rattle.node_core.specs.Leaving.{told_of, session_left}
 use Rattle.node_core.specs.Stands.{Stands, Tables, Does, Moves, quietly, plain_of}
 use Rattle.node_core.proofs.ClientCalls.{stands_by}
@@ -174,6 +176,7 @@ pub moves_idle : (node : NodeParts) (s : ℕ) (queue : List Message) → None �
 moves_idle node s queue none = record {
   plain = ap (ended_where (plain_of node) s) none;
   inbox = refl;
+  ring = ring_by node node refl;
   certification = refl;
   tables = λ order tables. tables;
 }
@@ -186,6 +189,7 @@ moves_told old mid s queue reply waiting told moves put = record {
       ∙ ap (λ (n : ModelNode). record n { waiting = insert n.waiting s reply }) moves.plain
       ∙ ap (ended_where (plain_of old) s) told;
   inbox = moves.inbox;
+  ring = record { ring = moves.ring.ring; since = moves.ring.since; id = moves.ring.id };
   certification = moves.certification;
   tables = λ order tables.
       let t = moves.tables order tables in record { locks = t.locks; rows = t.rows; units = t.units; room = t.room };
@@ -200,6 +204,7 @@ pub record HasLeft (old new : NodeParts) (s : ℕ) : Type 0 where
   pub are : Rest (messages_of old.queue) new.live s rest
   pub same : fold (leave_one (messages_of old.queue)) (plain_of new) rest ≡ sessions_left (plain_of old)
   pub inbox : new.inbox ≡ old.inbox
+  pub ring : KeepsRing old new
   pub certification : new.certification ≡ old.certification
   pub tables : (order : List Event) → Tables order old → Tables order new
 
@@ -218,6 +223,7 @@ none_left node sessions = record {
   };
   same = refl;
   inbox = refl;
+  ring = ring_by node node refl;
   certification = refl;
   tables = λ order tables. tables;
 }
@@ -247,6 +253,7 @@ more_left old mid new s so_far moves =
       are = subst (λ (n : ModelNode). Rest all n.live (s + 1) next.rest) (sym plain) next.are;
       same = ap (λ (n : ModelNode). fold (leave_one all) n next.rest) plain ∙ next.same ∙ so_far.same;
       inbox = moves.inbox ∙ so_far.inbox;
+      ring = rings_kept old mid new so_far.ring moves.ring;
       certification = moves.certification ∙ so_far.certification;
       tables = λ order tables. moves.tables order (so_far.tables order tables);
     }
@@ -262,6 +269,7 @@ all_left old new s left past = record {
   plain = sym (ap (fold (leave_one (messages_of old.queue)) (plain_of new))
       (nothing_rests (messages_of old.queue) new.live s left.rest left.are past)) ∙ left.same;
   inbox = left.inbox;
+  ring = left.ring;
   certification = left.certification;
   tables = left.tables;
 }
@@ -299,7 +307,8 @@ has_departed old mid queue moves empty order st =
     record {
       same = ap (λ (n : ModelNode). (tt, n)) same;
       stands = stands_by order old new st (ap (λ (p : Progress). p.committed) at) (ap (λ (p : Progress). p.certified) at)
-          (ap (λ (p : Progress). p.taken) at) moves.inbox moves.certification
+          (ap (λ (p : Progress). p.taken) at) (λ is. absurd (true≢false (sym is)))
+          (record { ring = moves.ring.ring; since = moves.ring.since; id = moves.ring.id }) moves.inbox moves.certification
           (record { locks = t.locks; rows = t.rows; units = t.units; room = t.room })
           (subst (Facts order) (sym same) (facts_left (plain_of old) order st.facts));
     }

@@ -4,8 +4,10 @@ pub mod CertifyCalls
 pub mod CertifyStep
 pub mod ClientCalls
 pub mod FinishCalls
+pub mod GiveCalls
 pub mod Growth
 pub mod Hearing
+pub mod JoinCalls
 pub mod KeptFacts
 pub mod ImageCalls
 pub mod KillCalls
@@ -14,6 +16,7 @@ pub mod NewCalls
 pub mod NodeLaws
 pub mod PutLoop
 pub mod ReportCalls
+pub mod SnapCalls
 pub mod Standing
 pub mod StartCalls
 pub mod Statements

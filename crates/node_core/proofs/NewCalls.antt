@@ -1,6 +1,6 @@
 -- A node at its start stands over any order.
 use Rattle.std.proofs.Common.{◌≡◌, ℕ, List, [], Some, refl, ap, sym, subst, ◌∙◌, arith, true≢false}
-use Rattle.std.specs.Prelude.{is_some}
+use Rattle.std.specs.Prelude.{is_some, ◌≢◌}
 use Rattle.std.specs.Ordering.{nat_cmp}
 use Rattle.finite_map.specs.FiniteMap.{empty, get, get-empty}
 use Rattle.row_model.specs.Rows.{row_cmp}
@@ -10,6 +10,9 @@ use Rattle.row_locks.specs.declared.holder.Holder.TheVariants.{Session, Unit as 
 use Rattle.order_event.specs.declared.event.Event.{Event}
 use Rattle.cert_meaning.specs.State.{no_events}
 use Rattle.cert_meaning.specs.Fold.{state_at}
+use Rattle.wsrep_base.specs.StateId.{nil_id}
+use Rattle.gcache_ring.specs.Held.{empty_ring}
+use Rattle.node_meaning.specs.Joining.{ring_of}
 use Rattle.node_meaning.specs.Node.{start_node, locks_of, rows_at}
 use Rattle.node_meaning.specs.Facts.{Facts}
 use Rattle.node_meaning.proofs.StartNode.{start_facts}
@@ -34,10 +37,14 @@ no_rows : (order : List Event) → rows_at order 0 ≡ empty
 unfolding state_at no_events
 no_rows order = refl
 
-module _ (order : List Event) (node : NodeParts) (id : List ℕ) (member : ℕ) (at_is : node.at ≡ (start_node id member).at) (id_is : node.id ≡ id)
-    (live : node.live ≡ empty) (waiting : node.waiting ≡ empty) (queue : node.queue ≡ nothing_sent) (units : node.units ≡ no_units) where
-  plain_is : plain_of node ≡ start_node id member
-  plain_is = rw (at_is, id_is, live, waiting, queue, units) refl
+module _ (order : List Event) (node : NodeParts) (gcache : ℕ) (id : List ℕ) (member : ℕ) (at_is : node.at ≡ (start_node gcache id member).at) (id_is : node.id ≡ id)
+    (live : node.live ≡ empty) (waiting : node.waiting ≡ empty) (queue : node.queue ≡ nothing_sent) (units : node.units ≡ no_units)
+    (ring : node.ring ≡ empty_ring gcache 0) (since : node.since ≡ 0) (given : id ≢ nil_id) where
+  plain_is : plain_of node ≡ start_node gcache id member
+  plain_is = rw (at_is, id_is, live, waiting, queue, units, ring, since) refl
+
+  ring_is : (order : List Event) → ring_of order (plain_of node) ≡ empty_ring gcache 0
+  ring_is order = ap (ring_of order) plain_is
 
   pub started : node.inbox ≡ [] → Certifies order 0 0 node.certification → node.locks.locks ≡ empty → node.rows.committed ≡ empty
       → node.rows.changes ≡ empty → Stands order node
@@ -60,5 +67,10 @@ module _ (order : List Event) (node : NodeParts) (id : List ℕ) (member : ℕ) 
           units = record { worked = λ number u there. absurd (nothing number u (ap (λ (t : _). get t.units number) (sym units) ∙ there)) };
           room = omega (arith, ap (λ (t : _). t.room) units);
         };
-        facts = subst (Facts order) (sym plain_is) (start_facts order id member);
+        serves = record {
+          ring = ring ∙ sym (ring_is order);
+          since = omega (arith, since);
+          id = λ is nil. given (sym id_is ∙ nil);
+        };
+        facts = subst (Facts order) (sym plain_is) (start_facts order gcache id member);
       }

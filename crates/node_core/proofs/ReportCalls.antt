@@ -13,6 +13,7 @@ use Rattle.node_meaning.specs.Facts.{Facts}
 use Rattle.node_meaning.specs.Steps.{put_report, report_step}
 use Rattle.node_laws.proofs.StepFacts.{report_keeps}
 use Rattle.node_core.specs.declared.node.NodeParts.{NodeParts}
+use Rattle.node_core.proofs.Standing.{serves_by}
 use Rattle.node_core.specs.Stands.{Stands, DoneOver, plain_of}
 
 -- what it answers, by the phase and whether the node has still to commit its view
@@ -62,6 +63,7 @@ module _ (order : List Event) (old : NodeParts) (st : Stands order old) where
               units = st.tables.units;
               room = st.tables.room;
             };
+            serves = serves_by order old (after_report old) (record { ring = refl; since = refl; id = refl }) refl (λ is. is) st.serves;
             facts = subst (Facts order) (ap (λ (r : Answer × ModelNode). r.1) (sym same)) (report_keeps order (plain_of old) st.facts);
           };
         })

@@ -1,11 +1,16 @@
 -- How a call shows that the node stands after it.
-use Rattle.std.proofs.Common.{◌≡◌, ℕ, zero, suc, ◌+◌, ◌≤◌, ◌<◌, List, [], ◌∷◌, ◌++◌, length, take, drop, Some, refl, ap, sym, subst, ◌∙◌, arith, add-one, length-take-le}
+use Rattle.std.proofs.Common.{◌≡◌, ℕ, zero, suc, ◌+◌, ◌≤◌, ◌<◌, List, [], ◌∷◌, ◌++◌, length, take, drop, true, Some, refl, ap, sym, subst, ◌∙◌, arith, add-one, length-take-le}
 use Rattle.std.specs.Prelude.{slice_get}
 use Rattle.std.proofs.lemmas.List.{drop-append-le}
 use Rattle.std.proofs.lemmas.Option.{same_Some}
 use Rattle.order_event.specs.declared.event.Event.{Event}
 use Rattle.node_core.specs.declared.node.NodeParts.{NodeParts}
-use Rattle.node_core.specs.Stands.{Unchanged}
+use Rattle.node_meaning.specs.Node.{ModelNode, is_connected}
+use Rattle.node_meaning.specs.Joining.{ring_of}
+use Rattle.gcache_ring.specs.Held.{Ring, held, with_event}
+use Rattle.gcache_ring.proofs.HeldLemmas.{held-again}
+use Rattle.wsrep_base.specs.StateId.{nil_id}
+use Rattle.node_core.specs.Stands.{Unchanged, Serves, KeepsRing, plain_of}
 
 -- ---- the inbox
 take_more : {A : Type 0} (xs : List A) (n : ℕ) (x : A) → slice_get xs n ≡ Some x → take (suc n) xs ≡ take n xs ++ x ∷ []
@@ -49,11 +54,75 @@ pub dropped_one : (order : List Event) (certified taken : ℕ)
     → drop 1 (drop certified (take taken order)) ≡ drop (certified + 1) (take taken order)
 dropped_one order certified taken = drop_next (take taken order) certified ∙ ap (λ k. drop k (take taken order)) (sym (add-one certified))
 
+-- ---- the ring
+-- it depends on these numbers of a node alone
+pub same_ring_of : (order : List Event) (n m : ModelNode) → n.gcache ≡ m.gcache → n.since ≡ m.since
+    → n.at.taken ≡ m.at.taken → ring_of order n ≡ ring_of order m
+same_ring_of order n m gcache since taken i = record {
+  size = gcache i;
+  last = taken i;
+  events = held (gcache i) (drop (since i) (take (taken i) order));
+}
+
+-- one more event is taken and pushed
+pub pushed_one : (order : List Event) (node : NodeParts) (e : Event) → Serves order node
+    → node.at.taken ≤ length order → slice_get order node.at.taken ≡ Some e
+    → with_event node.ring e
+    ≡ record {
+      size = node.ring.size;
+      last = node.at.taken + 1;
+      events = held node.ring.size (drop node.since (take (node.at.taken + 1) order));
+    }
+pushed_one order node e serves inside there =
+    let made : List Event → Ring = λ events. record { size = node.ring.size; last = node.at.taken + 1; events = held node.ring.size events } in
+    let events = drop node.since (take node.at.taken order) in
+    ap (λ (r : Ring). record { size = node.ring.size; last = r.last + 1; events = held node.ring.size (r.events ++ e ∷ []) }) serves.ring
+    ∙ ap (λ (kept : List Event). record { size = node.ring.size; last = node.at.taken + 1; events = kept }) (held-again node.ring.size events e)
+    ∙ ap made (taken_one order node.since node.at.taken e serves.since inside there)
+
+-- what stays as it was still serves, while no other node is connected
+pub serves_by : (order : List Event) (old new : NodeParts) → KeepsRing old new
+    → new.at.taken ≡ old.at.taken
+    → (is_connected new.at.phase ≡ true → is_connected old.at.phase ≡ true)
+    → Serves order old → Serves order new
+serves_by order old new kept taken connected serves = record {
+  ring = kept.ring ∙ serves.ring
+      ∙ sym (same_ring_of order (plain_of new) (plain_of old) (ap (λ (r : Ring). r.size) kept.ring)
+      kept.since taken);
+  since = omega (arith, serves.since, kept.since, taken);
+  id = λ is nil. serves.id (connected is) (sym kept.id ∙ nil);
+}
+
+-- one after the other
+pub rings_kept : (a b c : NodeParts) → KeepsRing a b → KeepsRing b c → KeepsRing a c
+rings_kept a b c one two = record {
+  ring = two.ring ∙ one.ring;
+  since = two.since ∙ one.since;
+  id = two.id ∙ one.id;
+}
+
+-- as where memory was wanted
+pub unchanged_ring : (old new : NodeParts) → Unchanged old new → KeepsRing old new
+unchanged_ring old new same = record {
+  ring = same.ring;
+  since = ap (λ (n : ModelNode). n.since) same.plain;
+  id = ap (λ (n : ModelNode). n.id) same.plain;
+}
+
+-- or where the one is the other but for other parts
+pub ring_by : (old new : NodeParts) → new ≡ old → KeepsRing old new
+ring_by old new same = record {
+  ring = ap (λ (n : NodeParts). n.ring) same;
+  since = ap (λ (n : NodeParts). n.since) same;
+  id = ap (λ (n : NodeParts). n.id) same;
+}
+
 -- a node that is as it was
 pub unchanged : (old new : NodeParts) → new ≡ old → Unchanged old new
 unchanged old new same = subst (Unchanged old) (sym same) (record {
   plain = refl;
   inbox = refl;
+  ring = refl;
   certification = refl;
   work = refl;
   unit_room = refl;

@@ -35,6 +35,8 @@ use Rattle.node_meaning.specs.Node.{ModelNode, is_left, is_joining, rows_at, loc
 use Rattle.node_meaning.specs.Client as client
 use Rattle.node_meaning.specs.Client.{first_line, where_true, refusal, met_by, extended, statement, statement_by, accepted, changed, send_fragment, is_pending}
 use Rattle.node_core.specs.declared.node.NodeParts.{NodeParts}
+use Rattle.node_core.proofs.Standing.{serves_by}
+use Rattle.node_meaning.specs.Node.{is_connected}
 use Rattle.node_core.specs.declared.refusal.Met.{Met}
 use Rattle.node_core.specs.Client.{hindrance, closed_by}
 use Rattle.node_core.specs.Sending.{trx_after, node_after, grown_by}
@@ -395,6 +397,12 @@ module _ (order : List Event) (c0 c1 c2 : NodeParts) (session : ℕ) (id : RowId
           same = done_is ∙ ap (λ o. statement order (plain_of c0) session o asked) (sym is);
           stands = stands_by order c1 c3 st1 (ap (λ (n : NodeParts). n.at.committed) all_is)
               (ap (λ (n : NodeParts). n.at.certified) all_is) (ap (λ (n : NodeParts). n.at.taken) all_is)
+              (λ is. ap (λ (n : NodeParts). is_connected n.at.phase) (sym all_is) ∙ is)
+              (record {
+                ring = ap (λ (n : NodeParts). n.ring) all_is;
+                since = ap (λ (n : NodeParts). n.since) all_is;
+                id = ap (λ (n : NodeParts). n.id) all_is;
+              })
               (ap (λ (n : NodeParts). n.inbox) all_is) (ap (λ (n : NodeParts). n.certification) all_is)
               (record {
                 locks = subst (λ (n : NodeParts). HoldAlike c3.locks.locks (locks_of n.live n.units.units)) (sym all_is) locks_now;
@@ -455,6 +463,7 @@ module _ (order : List Event) (old : NodeParts) (session : ℕ) (c : Call) (wait
             units = st.tables.units;
             room = st.tables.room;
           };
+          serves = serves_by order old (record old { waiting = waiting }) (record { ring = refl; since = refl; id = refl }) refl (λ is. is) st.serves;
           facts = facts_told order old (record old { waiting = waiting }) st session said (ap (λ w. record n { waiting = w }) left);
         };
       }

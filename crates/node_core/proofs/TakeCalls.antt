@@ -1,5 +1,5 @@
 -- Taking an event does what the model does.
-use Rattle.std.proofs.Common.{◌≡◌, ℕ, ◌+◌, Bool, true, false, cond, List, [], ◌∷◌, ◌++◌, None, Some, refl, ap, sym, subst, ◌∙◌}
+use Rattle.std.proofs.Common.{◌≡◌, ℕ, ◌+◌, Bool, true, false, cond, List, [], ◌∷◌, ◌++◌, None, Some, refl, ap, sym, subst, ◌∙◌, arith}
 use Rattle.std.specs.Prelude.{◌==◌, not, slice_get}
 use Rattle.std.specs.List.{find}
 use Rattle.std.proofs.lemmas.Bool.{false_from_ne_true}
@@ -18,7 +18,7 @@ use Rattle.node_core.proofs.KeptFacts.{facts_taken}
 use Rattle.node_core.specs.Stands.{Stands, DoneOver, plain_of}
 use Rattle.node_core.specs.Taking.{with_event, took_with, taken_own}
 use Rattle.std.proofs.lemmas.Bool.{eqb-true, eq-eqb}
-use Rattle.node_core.proofs.Standing.{taken_one}
+use Rattle.node_core.proofs.Standing.{taken_one, pushed_one}
 
 module _ (order : List Event) (old : NodeParts) (stands : Stands order old) where
   -- a node that is not connected takes nothing
@@ -52,6 +52,11 @@ module _ (order : List Event) (old : NodeParts) (stands : Stands order old) wher
               rows = stands.tables.rows;
               units = stands.tables.units;
               room = stands.tables.room;
+            };
+            serves = record {
+              ring = pushed_one order old e stands.serves stands.facts.in_order.taken_fits there;
+              since = omega (arith, stands.serves.since);
+              id = stands.serves.id;
             };
             facts = facts_taken order old (with_event old e queue) stands (answer.Took (old.at.taken + 1)) same;
           };

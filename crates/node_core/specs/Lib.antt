@@ -2,6 +2,8 @@ pub mod Advancing
 pub mod Answers
 pub mod Certifying
 pub mod Client
+pub mod Giving
+pub mod Joining
 pub mod Leaving
 pub mod Memory
 pub mod Sending

@@ -1,12 +1,14 @@
 -- when a node of the code stands for the model node over an order, and what a call of it does
-use Rattle.std.specs.Prelude.{◌≡◌, ◌≤◌, ℕ, List, length, take, drop, Some, None}
+use Rattle.std.specs.Prelude.{◌≡◌, ◌≢◌, ◌≤◌, ℕ, true, List, length, take, drop, Some, None}
 use Rattle.finite_map.specs.FiniteMap.{get}
+use Rattle.wsrep_base.specs.StateId.{nil_id}
 use Rattle.order_event.specs.declared.event.Event.{Event}
 use Rattle.certification.specs.Certifies.{Certifies}
 use Rattle.row_locks.specs.Alike.{HoldAlike}
 use Rattle.node_meaning.specs.declared.progress.Stage.{Stage}
 use Rattle.node_meaning.specs.declared.progress.Stage.TheVariants as stage
-use Rattle.node_meaning.specs.Node.{ModelNode, ApplyUnit, locks_of, rows_at}
+use Rattle.node_meaning.specs.Node.{ModelNode, ApplyUnit, is_connected, locks_of, rows_at}
+use Rattle.node_meaning.specs.Joining.{ring_of}
 use Rattle.node_meaning.specs.Facts.{Facts}
 use Rattle.node_core.specs.declared.node.NodeParts.{NodeParts}
 use Rattle.node_core.specs.Tabled.{Tabled}
@@ -18,6 +20,8 @@ abbrev pub plain_of : NodeParts → ModelNode
 plain_of node = record {
   at = node.at;
   id = node.id;
+  gcache = node.ring.size;
+  since = node.since;
   ordered = node.queue.ordered;
   outbox = node.queue.outbox;
   live = node.live;
@@ -45,11 +49,19 @@ pub record Tables (order : List Event) (node : NodeParts) : Type 0 where
   pub units : AreWorked order node.units
   pub room : node.units.room ≤ node.rows.spare
 
+-- what it has for a node that joins: its ring is that of the order, and its id is that of a state
+-- while it is connected
+pub record Serves (order : List Event) (node : NodeParts) : Type 0 where
+  pub ring : node.ring ≡ ring_of order (plain_of node)
+  pub since : node.since ≤ node.at.taken
+  pub id : is_connected node.at.phase ≡ true → node.id ≢ nil_id
+
 -- the node stands for the model node that it keeps
 pub record Stands (order : List Event) (node : NodeParts) : Type 0 where
   pub inbox : node.inbox ≡ drop node.at.certified (take node.at.taken order)
   pub certification : Certifies order node.at.committed node.at.certified node.certification
   pub tables : Tables order node
+  pub serves : Serves order node
   pub facts : Facts order (plain_of node)
 
 -- a call over one order: its answer and the model node after it are the model's, and the node
@@ -69,10 +81,17 @@ Does f old new answer =
 abbrev pub quietly : (ModelNode → ModelNode) → List Event → ModelNode → Unit {0} × ModelNode
 quietly f order n = (tt, f n)
 
+-- the ring, the number of the last snapshot and the id stay
+pub record KeepsRing (old new : NodeParts) : Type 0 where
+  pub ring : new.ring ≡ old.ring
+  pub since : new.since ≡ old.since
+  pub id : new.id ≡ old.id
+
 -- after want of memory all is as it was; there may be more room
 pub record Unchanged (old new : NodeParts) : Type 0 where
   pub plain : plain_of new ≡ plain_of old
   pub inbox : new.inbox ≡ old.inbox
+  pub ring : new.ring ≡ old.ring
   pub certification : new.certification ≡ old.certification
   pub work : new.units.work ≡ old.units.work
   pub unit_room : new.units.room ≡ old.units.room
@@ -85,6 +104,7 @@ pub record Unchanged (old new : NodeParts) : Type 0 where
 pub record Moves (f : ModelNode → ModelNode) (old new : NodeParts) : Type 0 where
   pub plain : plain_of new ≡ f (plain_of old)
   pub inbox : new.inbox ≡ old.inbox
+  pub ring : KeepsRing old new
   pub certification : new.certification ≡ old.certification
   pub tables : (order : List Event) → Tables order old → Tables order new
 

@@ -24,7 +24,7 @@ use Rattle.node_core.specs.declared.node.NodeParts.{NodeParts}
 use Rattle.node_core.specs.declared.answers.Started.{Started}
 use Rattle.node_core.specs.Tabled.{Tabled}
 use Rattle.node_core.specs.Answers.{started_answer, GivesTask}
-use Rattle.node_core.specs.Stands.{Stands, DoneOver, plain_of}
+use Rattle.node_core.specs.Stands.{Stands, KeepsRing, DoneOver, plain_of}
 use Rattle.node_core.specs.Memory.{is_start}
 
 -- a commit that passed and is not committed, has no unit and is no live transaction's, and is
@@ -98,6 +98,7 @@ pub record Aborts (f : ModelNode → ModelNode) (old new : NodeParts) : Type 0 w
   pub plain : plain_of new ≡ f (plain_of old)
   pub at : new.at ≡ old.at
   pub inbox : new.inbox ≡ old.inbox
+  pub ring : KeepsRing old new
   pub certification : new.certification ≡ old.certification
   pub units : new.units ≡ old.units
   pub spare : old.locks.spare ≤ new.locks.spare

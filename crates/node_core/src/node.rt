@@ -2,6 +2,7 @@ ghost use Rattle.std.specs.Prelude.{◌≡◌, ◌≢◌, ◌≤◌, ◌<◌, Li
 
 use certification::Certification;
 use client_trx::Trx;
+use gcache_ring::Ring;
 use node_meaning::{Phase, Progress};
 use node_parts::{Inbox, Queue, Slots, Units};
 use row_locks::LockTable;
@@ -28,6 +29,10 @@ pub struct NodeParts {
     pub(crate) units: Units,
     pub(crate) locks: LockTable,
     pub(crate) rows: Overlay,
+    /// The youngest events that it took since its start or its last snapshot.
+    pub(crate) ring: Ring,
+    /// The number of the snapshot that it took last; 0 where it took none.
+    pub(crate) since: u64,
 }
 
 impl NodeParts {
@@ -37,16 +42,16 @@ impl NodeParts {
     ghost use Rattle.node_meaning.specs.Steps.{sent_out};
     ghost use Rattle.node_core.specs.Stands.{Stands, Does, quietly, plain_of};
 
-    /// At its start, connected. The size of the ring of events is not used yet.
+    /// At its start, connected, with a ring of so many bytes.
     pub(crate) fn new(
         alloc: Global,
         id: StateId,
         member: u32,
-        _gcache: u64,
+        gcache: u64,
     ) -> Result<NodeParts, NoMemory>
         requires id { id ≢ nil_id }
-        requires ring { _gcache ≤ 16_777_216 }
-        ensures start { IfOk result (λ node. plain_of node ≡ start_node id member) }
+        requires ring { gcache ≤ 16_777_216 }
+        ensures start { IfOk result (λ node. plain_of node ≡ start_node gcache id member) }
         ensures stands { IfOk result (λ node. (order : List Event) → Stands order node) }
     {
         Ok(NodeParts {
@@ -70,6 +75,8 @@ impl NodeParts {
             units: Units::new(alloc),
             locks: LockTable::new(alloc)?,
             rows: Overlay::new(alloc)?,
+            ring: Ring::new(alloc, gcache, 0)?,
+            since: 0,
         })
     }
 

@@ -8,6 +8,7 @@ use client_trx::Trx;
 use node_meaning::Progress;
 use node_parts::Slots;
 use row_model::{Change, Op, RowId};
+use wsrep_base::StateId;
 
 // The functions here do nothing: their contracts say what the types of values say of them.
 
@@ -26,6 +27,13 @@ pub(crate) fn few_live(live: &Slots<Trx>)
     ensures { len live.now ≤ 33 }
 {
     let _end = live.session_end();
+}
+
+/// An id has sixteen bytes.
+pub(crate) fn id_in_range(id: &StateId)
+    ensures { length id.now ≡ 16 }
+{
+    let _bytes = id.bytes();
 }
 
 /// The names of a place have 16 bytes each.

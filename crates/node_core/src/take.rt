@@ -64,7 +64,9 @@ impl NodeParts {
 
     // Takes a write set of the node's own member, which is the oldest that it had ordered.
     fn take_own(&mut self, event: &Event, body: &Bytes) -> Result<Taken, NoMemory>
-        requires { self.old.at.taken < 2 ^ 63 }
+        requires number { self.old.at.taken < 2 ^ 63 }
+        requires last { self.old.ring.last < 2 ^ 63 }
+        requires members { HasFewMembers event.now }
         ensures ok { IfOk result
             (λ r. (r, self.new)
             ≡ taken_own
@@ -74,32 +76,36 @@ impl NodeParts {
         if !self.queue.is_next_write(body) {
             return Ok(Taken::Split(self.at.taken + 1));
         }
-        self.inbox.push(event)?;
+        self.keep_event(event)?;
         self.queue.take_write();
         Ok(self.took())
     }
 
     // Takes a report of the node's own member.
     fn take_own_report(&mut self, event: &Event) -> Result<Taken, NoMemory>
-        requires { self.old.at.taken < 2 ^ 63 }
+        requires number { self.old.at.taken < 2 ^ 63 }
+        requires last { self.old.ring.last < 2 ^ 63 }
+        requires members { HasFewMembers event.now }
         ensures ok { IfOk result
             (λ r. (r, self.new)
             ≡ took_with self.old event.now (without_oldest is_report self.old.queue)) }
         ensures err { OnErr result (self.new ≡ self.old) }
     {
-        self.inbox.push(event)?;
+        self.keep_event(event)?;
         self.queue.take_report();
         Ok(self.took())
     }
 
     // Takes an event that the node did not send.
     fn take_other(&mut self, event: &Event) -> Result<Taken, NoMemory>
-        requires { self.old.at.taken < 2 ^ 63 }
+        requires number { self.old.at.taken < 2 ^ 63 }
+        requires last { self.old.ring.last < 2 ^ 63 }
+        requires members { HasFewMembers event.now }
         ensures ok { IfOk result
             (λ r. (r, self.new) ≡ took_with self.old event.now self.old.queue) }
         ensures err { OnErr result (self.new ≡ self.old) }
     {
-        self.inbox.push(event)?;
+        self.keep_event(event)?;
         Ok(self.took())
     }
 

@@ -1,11 +1,13 @@
 //! A node with its watcher.
-ghost use Rattle.std.specs.Prelude.{◌≡◌, ◌≢◌, ◌≤◌, ◌<◌, ◌^◌, ◌+◌, ℕ, List, Option, Some, None, is_some, length, slice_get, IfOk, IfErr, OnErr, IsTrue, false};
+ghost use Rattle.std.specs.Prelude.{◌≡◌, ◌≢◌, ◌≤◌, ◌<◌, ◌^◌, ◌+◌, ℕ, List, Option, Some, None, is_some, length, slice_get, IfOk, IfErr, OnErr, IsTrue, true, false};
 ghost use Rattle.std.specs.Option.{option_copied};
 ghost use Rattle.finite_map.specs.FiniteMap.{get};
 
 use crate::answers::{Advanced, Certified, Place, Reported, Started, Status, Taken};
+use crate::gift::{Gift, GiveFault, ReceiveFault};
 use crate::node::NodeParts;
 use apply_unit::Done;
+use gcache_ring::Ring;
 use order_event::{Event, Message};
 use row_model::{Call, Reply, Row, RowId, RowList};
 use std::alloc::Global;
@@ -33,8 +35,10 @@ impl<W: Watcher> NodeOf<W> {
     ghost use Rattle.undo_rows.specs.RowTable.{row_items};
     ghost use Rattle.node_parts.specs.Queue.{oldest};
     ghost use Rattle.node_parts.specs.Units.{is_started};
-    ghost use Rattle.node_meaning.specs.Node.{start_node, rows_at, is_connected, is_left};
+    ghost use Rattle.wsrep_base.specs.declared.limits.TheConstants.{MOST_EVENTS};
+    ghost use Rattle.node_meaning.specs.Node.{start_node, rows_at, is_connected, is_left, is_joining};
     ghost use Rattle.node_meaning.specs.Leaving.{left_node};
+    ghost use Rattle.node_meaning.specs.Joining.{IsAtRest, ring_of, joined_node};
     ghost use Rattle.node_meaning.specs.Status.{status_step};
     ghost use Rattle.node_meaning.specs.Client.{client};
     ghost use Rattle.node_meaning.specs.Steps.{sent_out, take_step, certify_step, start_step, finish_step, advance_step, report_step};
@@ -42,12 +46,14 @@ impl<W: Watcher> NodeOf<W> {
     ghost use Rattle.wsrep_watch.specs.Heard.{EndsAt};
     ghost use Rattle.node_core.specs.declared.answers.Taken.TheVariants as taken;
     ghost use Rattle.node_core.specs.Answers.{taken_answer, certified_answer, started_answer, GivesTask, advanced_answer, reported_answer, status_answer};
+    ghost use Rattle.node_core.specs.Giving.{CanGive, Gives};
+    ghost use Rattle.node_core.specs.Joining.{GiftFits, Received, IsFaultOf};
     ghost use Rattle.node_core.specs.Memory.{CallWants, TakeWants, CertifyWants, starts, StartWants, ReportWants};
     ghost use Rattle.node_core.specs.Stands.{IsStanding, Stands, Does, DoneOver, Unchanged, quietly, plain_of};
     ghost use Rattle.node_core.specs.Watching.{HasHeard, Hears, note_due, told_by};
 
-    /// A node at its start, connected, with this state id and member number. The size of the ring
-    /// of events, in bytes, is not used yet.
+    /// A node at its start, connected, with this state id and member number, and with a ring of
+    /// events of so many bytes.
     pub fn new(
         alloc: Global,
         id: StateId,
@@ -57,7 +63,7 @@ impl<W: Watcher> NodeOf<W> {
     ) -> Result<NodeOf<W>, NoMemory>
         requires id { id ≢ nil_id }
         requires ring { gcache ≤ 16_777_216 }
-        ensures start { IfOk result (λ node. plain_of node.parts ≡ start_node id member) }
+        ensures start { IfOk result (λ node. plain_of node.parts ≡ start_node gcache id member) }
         ensures stands { IfOk result (λ node. (order : List Ordered) → Stands order node.parts) }
         ensures watcher { IfOk result (λ node. node.watcher ≡ watcher) }
     {
@@ -237,6 +243,59 @@ impl<W: Watcher> NodeOf<W> {
     {
         self.parts.leave();
         self.end_watch()
+    }
+
+    /// The node joins its group again, as a new member that enters with this view, and waits for
+    /// the state that it misses. Where it joins fresh, it keeps nothing of its own. It takes no
+    /// memory.
+    pub fn join(&mut self, fresh: bool, member: u32, view: u64)
+        requires stands { IsStanding self.old.parts }
+        requires left { is_left self.old.parts.at.phase ≡ true }
+        requires rests { IsAtRest (plain_of self.old.parts) }
+        requires member { self.old.parts.at.member < member }
+        ensures does { Does (quietly (joined_node fresh member view)) self.old.parts
+            self.new.parts tt }
+        ensures watcher { self.new.watcher ≡ self.old.watcher }
+    {
+        self.parts.join(fresh, member, view);
+    }
+
+    /// What a node that joins misses from this number on: the events, exactly where `same` says
+    /// that both have the same state and the ring has that number; else a snapshot of what the node
+    /// has committed, if that is all that it certified. It costs the events, or the rows and the
+    /// commits that are kept.
+    pub fn give(&self, from: u64, same: bool) -> Result<Gift, GiveFault>
+        requires stands { CanGive self.now.parts }
+        requires connected { is_connected self.now.parts.at.phase ≡ true }
+        requires few { self.now.parts.at.taken ≤ MOST_EVENTS }
+        ensures { (order : List Ordered) → Stands order self.now.parts
+            → Gives order (plain_of self.now.parts) from same result }
+    {
+        self.parts.give(from, same)
+    }
+
+    /// Takes what another node gave, and is connected. It gives the last number that was taken. The
+    /// events are taken all or none; so is a snapshot, which is refused at its first fault.
+    pub fn receive(&mut self, gift: &Gift) -> Result<u64, ReceiveFault>
+        requires stands { IsStanding self.old.parts }
+        requires joining { is_joining self.old.parts.at.phase ≡ true }
+        requires rests { IsAtRest (plain_of self.old.parts) }
+        requires fits { GiftFits gift.now (plain_of self.old.parts) }
+        ensures ok { IfOk result (λ last. Received gift.now self.old.parts self.new.parts last) }
+        ensures err { OnErr result (Unchanged self.old.parts self.new.parts) }
+        ensures fault { IfErr result (λ fault. IsFaultOf gift.now fault) }
+        ensures watcher { self.new.watcher ≡ self.old.watcher }
+    {
+        self.parts.receive(gift)
+    }
+
+    /// The events that the node holds for one that joins: the youngest ones that it took since its
+    /// start or its last snapshot, as many as fit. It takes no memory.
+    pub fn ring(&self) -> &Ring
+        ensures { (order : List Ordered) → Stands order self.now.parts
+            → result.now ≡ ring_of order (plain_of self.now.parts) }
+    {
+        &self.parts.ring
     }
 
     /// The watcher, which is told that it ends where the node has committed; None exactly where

@@ -72,7 +72,7 @@ module _ (n : ModelNode) (left : is_left n.at.phase ≡ true)
   cleared_moved : (order : List Event) (given : Type 0) (works : Bool) (kind : Kind) (m : ModelNode)
       → May works kind → Move order given n kind m → IsCleared m.ordered m.outbox m.live
   cleared_moved order given works kind m may (Begins s unit can) =
-      absurd (true≢false (sym left ∙ can.stays))
+      absurd (left_not_in n.at.phase left can.connected)
   cleared_moved order given works kind m may (Extends s t st here fits free) =
       absurd (not_running s t here)
   cleared_moved order given works kind m may (Streams s t here change range) =
@@ -84,8 +84,8 @@ module _ (n : ModelNode) (left : is_left n.at.phase ≡ true)
       ∙ h.committing s t there))
   cleared_moved order given works kind m may (Unlocks s t to there unlocked) =
       put s (with_status t to) (unlocked_sent t.status to unlocked)
-  cleared_moved order given works kind m may (Reports stays) =
-      absurd (true≢false (sym left ∙ stays))
+  cleared_moved order given works kind m may (Reports connected) =
+      absurd (left_not_in n.at.phase left connected)
   cleared_moved order given works kind m may (Orders front back is) = absurd may
   cleared_moved order given works kind m may (Leaves can) = absurd may
   cleared_moved order given works kind m may (Takes e ordered there leaves) =

@@ -1,6 +1,7 @@
 -- Every client call is at most one move that pays, and one more where a statement sends a fragment.
 use Rattle.std.proofs.Common.{◌≡◌, ℕ, Bool, true, false, List, Option, None, Some, refl, ap, sym}
 use Rattle.std.specs.Prelude.{◌==◌, ◌&&◌, ◌||◌, nat_lt, IsTrue, length}
+use Rattle.std.proofs.lemmas.Bool.{or_parts}
 use Rattle.finite_map.specs.FiniteMap.{FiniteMap, get}
 use Rattle.finite_map.proofs.Edits.{numbers, get-put, insert-insert}
 use Rattle.row_model.specs.declared.ops.Op.{Op}
@@ -14,11 +15,11 @@ use Rattle.order_event.specs.declared.event.Event.{Event}
 use Rattle.write_set.proofs.RulesOf.{both}
 use Rattle.write_set.specs.declared.write_set.WriteSet.{WriteSet}
 use Rattle.client_trx.specs.Live.{Live, is_due, fragment_of, fragment_sent, rollback_due}
-use Rattle.node_meaning.specs.Node.{ModelNode, is_left, is_joining, set_live, end_live, send, send_any}
+use Rattle.node_meaning.specs.Node.{ModelNode, is_left, is_joining, is_connected, set_live, end_live, send, send_any}
 use Rattle.node_meaning.specs.Client.{Statement, inserting, updating, deleting, sharing, extended, met_by, refusal, send_fragment, changed, accepted, statement_by, statement, begin_call, send_commit, commit_call, rollback_call, served, is_pending, asked, told_first, client}
 use Rattle.node_meaning.specs.Facts.{CallInRange, ProgressInRange}
 use Rattle.node_meaning.proofs.ClientFacts.{StatementFits, due_change, running_of}
-use Rattle.node_laws.proofs.Moves.{IsRunning, Tells, Begins, Extends, Streams, Sends, Ends, TakesBack, Reaches, Here, Paying, one, paid, at_most, chosen, to_same}
+use Rattle.node_laws.proofs.Moves.{connected_from, IsRunning, Tells, Begins, Extends, Streams, Sends, Ends, TakesBack, Reaches, Here, Paying, one, paid, at_most, chosen, to_same}
 
 -- a call whose names have their form and whose values are in range, of a node whose numbers are
 pub record CanCall (n : ModelNode) (c : Call) : Type 0 where
@@ -28,11 +29,11 @@ pub record CanCall (n : ModelNode) (c : Call) : Type 0 where
 
 module _ (order : List Event) (works : Bool) (n : ModelNode) (s : ℕ) where
   module _ (given : Type 0) where
-    pub begin_moves : (unit : ℕ) (o : Option Live) → is_left n.at.phase ≡ false → get n.live s ≡ o
+    pub begin_moves : (unit : ℕ) (o : Option Live) → is_connected n.at.phase ≡ true → get n.live s ≡ o
         → get n.waiting s ≡ None → Reaches order given works n 1 (begin_call n s unit o).1
-    begin_moves unit None stays there told =
-        paid n _ (Begins s unit (record { stays = stays; none = there; told = told }))
-    begin_moves unit (Some t) stays there told = Here
+    begin_moves unit None connected there told =
+        paid n _ (Begins s unit (record { connected = connected; none = there; told = told }))
+    begin_moves unit (Some t) connected there told = Here
 
     module _ (t : Live) (st : Statement) (here : IsRunning n s t) (fits : given → StatementFits st)
         (range : given → ProgressInRange n.at) where
@@ -96,37 +97,39 @@ module _ (order : List Event) (works : Bool) (n : ModelNode) (s : ℕ) where
     rollback_moves (Some t) there range =
         back_moves t there range (rollback_due t n.at.serial n.at.committed) refl
 
-  served_moves : (o : Option Live) (c : Call) → is_left n.at.phase ≡ false → get n.live s ≡ o
+  served_moves : (o : Option Live) (c : Call) → is_connected n.at.phase ≡ true → get n.live s ≡ o
       → get n.waiting s ≡ None → is_pending o ≡ false
       → Reaches order (CanCall n c) works n 1 (served order n s o c).1
-  served_moves o (call.Begin unit) stays there told idle = begin_moves _ unit o stays there told
-  served_moves o (call.Insert id row) stays there told idle =
+  served_moves o (call.Begin unit) connected there told idle = begin_moves _ unit o connected there told
+  served_moves o (call.Insert id row) connected there told idle =
       statement_moves _ o (inserting id row) there idle
       (λ h. record { names = h.names; key = record { form = h.names; key = refl }; place = h.values.0; change = h.values })
       (λ h. h.range)
-  served_moves o (call.Update id change) stays there told idle =
+  served_moves o (call.Update id change) connected there told idle =
       statement_moves _ o (updating id change) there idle
       (λ h. record { names = (both (place_fits id) _ h.names).0; key = record { form = h.names; key = refl }; place = h.values.0; change = h.values })
       (λ h. h.range)
-  served_moves o (call.Delete id) stays there told idle =
+  served_moves o (call.Delete id) connected there told idle =
       statement_moves _ o (deleting id) there idle
       (λ h. record { names = h.names; key = record { form = h.names; key = refl }; place = h.values; change = h.values })
       (λ h. h.range)
-  served_moves o (call.Share id) stays there told idle =
+  served_moves o (call.Share id) connected there told idle =
       statement_moves _ o (sharing id) there idle (λ h. record { names = h.names; key = tt; place = h.values; change = tt })
       (λ h. h.range)
-  served_moves o (call.Read id) stays there told idle = Here
-  served_moves o call.Commit stays there told idle = commit_moves _ o there idle (λ h. h.range)
-  served_moves o call.Rollback stays there told idle = rollback_moves _ o there (λ h. h.range)
-  served_moves o call.Poll stays there told idle = Here
+  served_moves o (call.Read id) connected there told idle = Here
+  served_moves o call.Commit connected there told idle = commit_moves _ o there idle (λ h. h.range)
+  served_moves o call.Rollback connected there told idle = rollback_moves _ o there (λ h. h.range)
+  served_moves o call.Poll connected there told idle = Here
 
   asked_moves : (o : Option Live) (c : Call) → get n.live s ≡ o → get n.waiting s ≡ None
       → Reaches order (CanCall n c) works n 1 (asked order n s o c).1
   asked_moves o c there told =
       chosen 1 n (is_pending o) (reply.Pending, n) _ (λ _. Here) (λ idle.
       chosen 1 n (is_left n.at.phase) (reply.Disconnected, n) _ (λ _. Here) (λ stays.
-      chosen 1 n (is_joining n.at.phase || nat_lt n.at.committed n.at.view) (reply.NotSynced, n) (served order n s o c) (λ _. Here) (λ _.
-      served_moves o c stays there told idle)))
+      chosen 1 n (is_joining n.at.phase || nat_lt n.at.committed n.at.view) (reply.NotSynced, n) (served order n s o c) (λ _. Here) (λ late.
+      served_moves o c
+      (connected_from n.at.phase stays
+      (or_parts (is_joining n.at.phase) (nat_lt n.at.committed n.at.view) late).0) there told idle)))
 
   first_moves : (given : Type 0) (o : Option Reply) (otherwise : Reply × ModelNode)
       → (o ≡ None → Reaches order given works n 1 otherwise.1)

@@ -21,7 +21,8 @@ use Rattle.node_laws.specs.Given.{node_given, nodes_given, given, CanGoOn}
 use Rattle.node_laws.specs.Drains.{after_acts, all_sent, commit_acts, certified_acts, taken_acts, sent_acts, drain_acts, drain_acts_of, StoppedAt}
 use Rattle.node_laws.proofs.Counts.{Grows}
 use Rattle.node_laws.proofs.StepCounts.{sent_out_grows, take_grows, certify_grows, start_grows, finish_grows, advance_grows}
-use Rattle.node_laws.proofs.ClusterLaws.{cluster_grows, sizes-set, set_count, start_sizes, length-up_to}
+use Rattle.node_laws.proofs.ClusterGrowth.{Spends, spends, cluster_grows, sizes-set, set_count}
+use Rattle.node_laws.proofs.StartSound.{start_sizes, length-up_to}
 
 -- ---- the greatest of all nodes
 given_at_most : (most : ℕ) (nodes : List ModelNode) → ((i : ℕ) (n : ModelNode) → slice_get nodes i ≡ Some n → node_given n ≤ most) → nodes_given nodes ≤ most
@@ -33,8 +34,11 @@ node_at_most [] i n there = cc
 node_at_most (x ∷ xs) zero n there = let same : node_given x ≡ node_given n = ap node_given (same_Some x n there) in omega (arith, same)
 node_at_most (x ∷ xs) (suc i) n there = omega (arith, node_at_most xs i n there)
 
+spent : (k : ℕ) (n m : ModelNode) → Spends k n m → node_given m ≤ node_given n + k
+spent k n m grows = omega (arith, grows.serial, grows.begin)
+
 grown : (k : ℕ) (n m : ModelNode) → Grows k n m → node_given m ≤ node_given n + k
-grown k n m grows = omega (arith, grows.serial, grows.begin)
+grown k n m grows = spent k n m (spends k n m grows)
 
 -- what a step needs
 pub node_goes_on : (c : ModelCluster) → given c < 2 ^ 63 → (i : ℕ) (n : ModelNode) → slice_get c.nodes i ≡ Some n → CanGoOn n
@@ -51,7 +55,7 @@ step_given c step =
     let nodes : nodes_given (cluster_step c step).1.nodes ≤ nodes_given c.nodes + 1 =
     given_at_most (nodes_given c.nodes + 1) (cluster_step c step).1.nodes (λ i n there.
     let from = grows.each i n there in
-    omega (arith, grown 1 from.old n from.grows, node_at_most c.nodes i from.old from.there)) in
+    omega (arith, spent 1 from.old n from.grows, node_at_most c.nodes i from.old from.there)) in
     omega (arith, grows.size, nodes)
 
 -- ---- the parts of a drain give out nothing
@@ -172,14 +176,19 @@ stopped_stays act.Drain node old new next stopped =
 stopped_stays other node old new next stopped = subst (Stays old) (sym stopped.1) (record { nodes = refl; given = omega arith })
 
 -- ---- at the start
-start_given : (id members : List ℕ) → nodes_given (map (start_node id) members) ≤ 1
-start_given id [] = omega arith
-start_given id (m ∷ ms) = omega (arith, len-empty nat_cmp Live, start_given id ms)
+start_given : (gcache : ℕ) (id members : List ℕ)
+    → nodes_given (map (start_node gcache id) members) ≤ 1
+start_given gcache id [] = omega arith
+start_given gcache id (m ∷ ms) =
+    omega (arith, len-empty nat_cmp Live, start_given gcache id ms)
 
-pub given_at_start : (nodes : ℕ) (id : List ℕ) → given (start_cluster nodes id) ≡ 1
+pub given_at_start : (nodes gcache : ℕ) (id : List ℕ) → given (start_cluster nodes gcache id) ≡ 1
 unfolding given start_cluster
-given_at_start nodes id = omega (arith, start_sizes id (up_to nodes), start_given id (up_to nodes))
+given_at_start nodes gcache id =
+    omega (arith, start_sizes gcache id (up_to nodes), start_given gcache id (up_to nodes))
 
-pub nodes_at_start : (nodes : ℕ) (id : List ℕ) → length (start_cluster nodes id).nodes ≡ nodes
+pub nodes_at_start : (nodes gcache : ℕ) (id : List ℕ)
+    → length (start_cluster nodes gcache id).nodes ≡ nodes
 unfolding start_cluster
-nodes_at_start nodes id = length-map (up_to nodes) (start_node id) ∙ length-up_to nodes
+nodes_at_start nodes gcache id =
+    length-map (up_to nodes) (start_node gcache id) ∙ length-up_to nodes

@@ -85,7 +85,7 @@ module _ (member other : ℕ) (differs : other ≡ member → ⊥) where
   other_message (message.Write body) = ap (λ b. cond b (Some (message.Write body)) None) not_same
   other_message (message.Report number) = ap (λ b. cond b (Some (message.Report number)) None) not_same
 
-  other_messages : (ms : List Message) → filter_map (message_of member) (map (event_of other) ms) ≡ []
+  pub other_messages : (ms : List Message) → filter_map (message_of member) (map (event_of other) ms) ≡ []
   other_messages [] = refl
   other_messages (m ∷ ms) =
       ap (λ o. cons_option o (filter_map (message_of member) (map (event_of other) ms))) (other_message m)

@@ -24,8 +24,14 @@ pub mod Works
 pub mod Waiting
 pub mod InStep
 pub mod Cleared
+pub mod LastMember
+pub mod Joining
+pub mod ClusterGrowth
+pub mod Sound
+pub mod StartSound
 pub mod ClusterLaws
 pub mod ViewLists
+pub mod NodeViews
 pub mod Views
 pub mod StartedUnits
 pub mod GivenLaws

@@ -24,7 +24,9 @@ use Rattle.client_trx.specs.Live.{Live, is_sent, has_locks, with_status, passed_
 use Rattle.client_trx.specs.declared.status.Status.{Status}
 use Rattle.client_trx.specs.declared.status.Status.TheVariants as status
 use Rattle.node_meaning.specs.declared.progress.Stage.TheVariants.{Started, Finished}
-use Rattle.node_meaning.specs.Node.{ModelNode, ApplyUnit, is_left, is_connected, set_live, end_with, send, ahead, passed_at}
+use Rattle.node_meaning.specs.declared.progress.Phase.{Phase}
+use Rattle.node_meaning.specs.declared.progress.Phase.TheVariants as phase
+use Rattle.node_meaning.specs.Node.{ModelNode, ApplyUnit, is_left, is_joining, is_connected, set_live, end_with, send, ahead, passed_at}
 use Rattle.node_meaning.specs.Client.{Statement, extended, met_by, refusal, send_fragment, send_commit}
 use Rattle.node_meaning.specs.Leaving.{waits_in, told_at_leave, departed}
 use Rattle.node_meaning.specs.Steps.{unqueued, session_of, is_local, touching_before, committer_of, is_ready, put_report}
@@ -69,9 +71,16 @@ ended_with n s w o =
     record (send n w) { live = remove n.live s; waiting = with_reply n.waiting s o }
 
 -- ---- what holds where they are made
--- the node has not left, the session has no transaction, and no answer waits for it
+-- a node that has not left and does not join is connected
+pub connected_from : (now : Phase) → is_left now ≡ false → is_joining now ≡ false
+    → is_connected now ≡ true
+connected_from phase.Left left joining = cc
+connected_from phase.Joining left joining = cc
+connected_from phase.Connected left joining = refl
+
+-- the node is connected, the session has no transaction, and no answer waits for it
 pub record MayBegin (n : ModelNode) (s : ℕ) : Type 0 where
-  pub stays : is_left n.at.phase ≡ false
+  pub connected : is_connected n.at.phase ≡ true
   pub none : get n.live s ≡ None
   pub told : get n.waiting s ≡ None
 
@@ -188,7 +197,7 @@ pub data Move (order : List Event) (given : Type 0) (n : ModelNode) : Kind → M
   Unlocks : (s : ℕ) (t : Live) (to : Status) → get n.live s ≡ Some t → Unlocked t.status to
       → Move order given n Quiet (set_live n s (with_status t to))
   -- a report of what is committed waits to be ordered
-  Reports : is_left n.at.phase ≡ false → Move order given n Pays (put_report n)
+  Reports : is_connected n.at.phase ≡ true → Move order given n Pays (put_report n)
   -- messages at the front of the outbox are ordered
   Orders : (front back : List Message) → n.outbox ≡ front ++ back
       → Move order given n Joint (with_ordered n front back)

@@ -96,7 +96,7 @@ module _ (order : List Event) (n : ModelNode) where
           waiting = remove n.waiting s;
         } in
         let may : MayBegin told s = record {
-          stays = refl;
+          connected = refl;
           none = there;
           told = get-taken numbers n.waiting s;
         } in

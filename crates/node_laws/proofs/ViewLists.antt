@@ -1,5 +1,5 @@
 -- The members of a view: one of them leaves, and who is among them.
-use Rattle.std.proofs.Common.{◌≡◌, ℕ, zero, suc, ◌≤◌, ◌<◌, Bool, true, false, cond, List, [], ◌∷◌, ◌++◌, length, Option, None, Some, refl, ap, sym, ◌∙◌, arith, eq-eqb, ltb-true, lt-ltb}
+use Rattle.std.proofs.Common.{◌≡◌, ℕ, zero, suc, ◌+◌, ◌≤◌, ◌<◌, Bool, true, false, cond, List, [], ◌∷◌, ◌++◌, length, Option, None, Some, refl, ap, sym, ◌∙◌, arith, eq-eqb, ltb-true, lt-ltb}
 use Rattle.std.specs.Prelude.{◌==◌, ◌||◌, ◌&&◌, not, nat_lt, slice_get, map}
 use Rattle.std.specs.List.{AllByRecursion, list_any}
 use Rattle.std.proofs.lemmas.Bool.{or_parts, and_parts}
@@ -14,6 +14,10 @@ use Rattle.node_laws.proofs.SetLists.{equal, unequal, all_push}
 -- whether a member is among some
 abbrev pub is_among : ℕ → List ℕ → Bool
 is_among member members = list_any (λ k. k == member) members
+
+either : (b : Bool) {rest : Bool} → rest ≡ true → b || rest ≡ true
+either true rest = refl
+either false rest = rest
 
 -- ---- all but one
 module _ (gone : ℕ) where
@@ -50,6 +54,17 @@ module _ (gone : ℕ) where
           (sym (unequal m member (λ same. differs (sym same ∙ equal m gone is))))
       by false is rest = ap (λ b. m == member || b) rest
 
+  -- where it is among them, it is one of them
+  pub but_one : (ms : List ℕ) → is_among gone ms ≡ true → length (all_but gone ms) + 1 ≤ length ms
+  but_one [] among = cc
+  but_one (m ∷ ms) among = by (m == gone) among (but_fewer ms) (but_one ms)
+    where
+      by : (b : Bool) → b || is_among gone ms ≡ true → length (all_but gone ms) ≤ length ms
+          → (is_among gone ms ≡ true → length (all_but gone ms) + 1 ≤ length ms)
+          → length (cond (not b) (m ∷ all_but gone ms) (all_but gone ms)) + 1 ≤ length (m ∷ ms)
+      by true is fewer rest = omega (arith, fewer)
+      by false is fewer rest = let one = rest is in omega (arith, one)
+
   -- where it is not among them, all stay
   pub but_absent : (ms : List ℕ) → is_among gone ms ≡ false → all_but gone ms ≡ ms
   but_absent [] none = refl
@@ -84,7 +99,30 @@ but_rises gone before (m ∷ ms) rises =
     by true above rest = rise_lower before m (all_but gone ms) above rest
     by false above rest = (λ i. above i && rest i)
 
-rise_push : (before : Option ℕ) (ms : List ℕ) (k : ℕ) → is_above before k ≡ true
+-- ---- one more at the end
+module _ (new : ℕ) where
+  pub among_new : (ms : List ℕ) → is_among new (ms ++ new ∷ []) ≡ true
+  among_new [] = ap (λ b. b || false) (eq-eqb new new refl)
+  among_new (m ∷ ms) = either (m == new) (among_new ms)
+
+  pub among_more : (member : ℕ) (ms : List ℕ) → is_among member ms ≡ true
+      → is_among member (ms ++ new ∷ []) ≡ true
+  among_more member [] among = cc
+  among_more member (m ∷ ms) among = by (m == member) among (among_more member ms)
+    where
+      by : (b : Bool) → b || is_among member ms ≡ true
+          → (is_among member ms ≡ true → is_among member (ms ++ new ∷ []) ≡ true)
+          → b || is_among member (ms ++ new ∷ []) ≡ true
+      by true is rest = refl
+      by false is rest = rest is
+
+  pub among_other : (member : ℕ) → (new ≡ member → ⊥) → (ms : List ℕ)
+      → is_among member (ms ++ new ∷ []) ≡ is_among member ms
+  among_other member differs [] = ap (λ b. b || false) (unequal new member differs)
+  among_other member differs (m ∷ ms) =
+      ap (λ b. m == member || b) (among_other member differs ms)
+
+pub rise_push : (before : Option ℕ) (ms : List ℕ) (k : ℕ) → is_above before k ≡ true
     → AllByRecursion (λ m. m < k) ms → rise_from before ms ≡ true
     → rise_from before (ms ++ k ∷ []) ≡ true
 rise_push before [] k above below rises = (λ i. above i && true)
@@ -109,14 +147,11 @@ among_at [] i m there = cc
 among_at (x ∷ xs) zero m there =
     ap (λ b. b || is_among m xs) (eq-eqb x m (same_Some x m there))
 among_at (x ∷ xs) (suc i) m there = either (x == m) (among_at xs i m there)
-  where
-    either : (b : Bool) → is_among m xs ≡ true → b || is_among m xs ≡ true
-    either true rest = refl
-    either false rest = rest
 
-pub members_at_start : (id ms : List ℕ) → members_in (map (start_node id) ms) ≡ ms
-members_at_start id [] = refl
-members_at_start id (m ∷ ms) = ap (λ rest. m ∷ rest) (members_at_start id ms)
+pub members_at_start : (gcache : ℕ) (id ms : List ℕ)
+    → members_in (map (start_node gcache id) ms) ≡ ms
+members_at_start gcache id [] = refl
+members_at_start gcache id (m ∷ ms) = ap (λ rest. m ∷ rest) (members_at_start gcache id ms)
 
 pub members_fewer : (nodes : List ModelNode) → length (members_in nodes) ≤ length nodes
 members_fewer [] = omega arith
@@ -166,12 +201,12 @@ lacks_member member (x ∷ xs) none =
 
 -- ---- one node takes another's place
 pub members_same : (nodes : List ModelNode) (i : ℕ) (n m : ModelNode) → slice_get nodes i ≡ Some n
-    → m.at.phase ≡ n.at.phase → m.at.member ≡ n.at.member
+    → is_left m.at.phase ≡ is_left n.at.phase → m.at.member ≡ n.at.member
     → members_in (set_at nodes i m) ≡ members_in nodes
 members_same [] i n m there phase member = refl
 members_same (x ∷ xs) zero n m there phase member =
     let same : x ≡ n = same_Some x n there in
-    (λ i. cond (is_left (phase i)) (members_in xs) (member i ∷ members_in xs))
+    (λ i. cond (phase i) (members_in xs) (member i ∷ members_in xs))
     ∙ ap (λ (o : ModelNode). cond (is_left o.at.phase) (members_in xs)
     (o.at.member ∷ members_in xs)) (sym same)
 members_same (x ∷ xs) (suc i) n m there phase member =
@@ -211,3 +246,58 @@ members_left (x ∷ xs) (suc i) n m there stays left alone =
         ap (λ ms. x.at.member ∷ ms) rest
         ∙ ap (λ b. cond (not b) (x.at.member ∷ all_but n.at.member (members_in xs))
         (all_but n.at.member (members_in xs))) (sym other)
+
+-- how many they are
+abbrev pub stays_as : ModelNode → ℕ
+stays_as n = cond (is_left n.at.phase) 0 1
+
+pub members_count : (nodes : List ModelNode) (i : ℕ) (n m : ModelNode) → slice_get nodes i ≡ Some n
+    → length (members_in (set_at nodes i m)) + stays_as n ≡ length (members_in nodes) + stays_as m
+members_count [] i n m there = cc
+members_count (x ∷ xs) zero n m there =
+    let same : stays_as x ≡ stays_as n = ap stays_as (same_Some x n there) in
+    let before = counted x xs in
+    let after = counted m xs in
+    omega (arith, same, before, after)
+  where
+    counted : (y : ModelNode) (ys : List ModelNode)
+        → length (members_in (y ∷ ys)) ≡ length (members_in ys) + stays_as y
+    counted y ys = by (is_left y.at.phase)
+      where
+        by : (b : Bool) → length (cond b (members_in ys) (y.at.member ∷ members_in ys))
+            ≡ length (members_in ys) + cond b 0 1
+        by true = omega arith
+        by false = omega arith
+members_count (x ∷ xs) (suc i) n m there =
+    by (is_left x.at.phase) (members_count xs i n m there)
+  where
+    by : (b : Bool)
+        → length (members_in (set_at xs i m)) + stays_as n ≡ length (members_in xs) + stays_as m
+        → length (cond b (members_in (set_at xs i m)) (x.at.member ∷ members_in (set_at xs i m)))
+        + stays_as n
+        ≡ length (cond b (members_in xs) (x.at.member ∷ members_in xs)) + stays_as m
+    by true rest = rest
+    by false rest = omega (arith, rest)
+
+-- one that had left is there again with another member
+pub members_joined : (member : ℕ) (nodes : List ModelNode) (i : ℕ) (n m : ModelNode)
+    → slice_get nodes i ≡ Some n → is_left n.at.phase ≡ true → is_left m.at.phase ≡ false
+    → (m.at.member ≡ member → ⊥)
+    → is_among member (members_in (set_at nodes i m)) ≡ is_among member (members_in nodes)
+members_joined member [] i n m there left stays differs = cc
+members_joined member (x ∷ xs) zero n m there left stays differs =
+    let same : x ≡ n = same_Some x n there in
+    ap (λ b. is_among member (cond b (members_in xs) (m.at.member ∷ members_in xs))) stays
+    ∙ ap (λ b. b || is_among member (members_in xs)) (unequal m.at.member member differs)
+    ∙ sym (ap (λ b. is_among member (cond b (members_in xs) (x.at.member ∷ members_in xs)))
+    (ap (λ (o : ModelNode). is_left o.at.phase) same ∙ left))
+members_joined member (x ∷ xs) (suc i) n m there left stays differs =
+    by (is_left x.at.phase) (members_joined member xs i n m there left stays differs)
+  where
+    by : (b : Bool)
+        → is_among member (members_in (set_at xs i m)) ≡ is_among member (members_in xs)
+        → is_among member
+        (cond b (members_in (set_at xs i m)) (x.at.member ∷ members_in (set_at xs i m)))
+        ≡ is_among member (cond b (members_in xs) (x.at.member ∷ members_in xs))
+    by true rest = rest
+    by false rest = ap (λ b. x.at.member == member || b) rest

@@ -1,5 +1,5 @@
 -- a node's messages in the order, while it is in the group and once it has left
-use Rattle.std.specs.Prelude.{◌≡◌, ℕ, ◌==◌, false, List, [], drop, Option, Some, None, if◌then◌else◌}
+use Rattle.std.specs.Prelude.{◌≡◌, ◌<◌, ℕ, ◌==◌, false, List, [], drop, Option, Some, None, if◌then◌else◌}
 use Rattle.std.specs.List.{filter_map}
 use Rattle.std.specs.Ordering.{nat_cmp}
 use Rattle.finite_map.specs.FiniteMap.{FiniteMap, get}
@@ -9,6 +9,7 @@ use Rattle.order_event.specs.declared.event.Message.{Message}
 use Rattle.order_event.specs.declared.event.Message.TheVariants as message
 use Rattle.client_trx.specs.Live.{Live, is_uncommitted}
 use Rattle.node_meaning.specs.Node.{ModelNode}
+use Rattle.node_meaning.specs.Joining.{IsAtRest}
 
 -- what an event was sent as, where it is the member's
 abbrev pub message_of : ℕ → Event → Option Message
@@ -32,3 +33,8 @@ pub record IsCleared (ordered outbox : List Message) (live : FiniteMap nat_cmp L
   pub none_waits : outbox ≡ []
   pub committing : (session : ℕ) (t : Live) → get live session ≡ Some t
       → is_uncommitted t.status ≡ false
+
+-- while it waits for the state that it misses it is at rest, and it has not taken the view in which
+-- it enters
+abbrev pub IsWaiting : ModelNode → Type 0
+IsWaiting n = IsAtRest n × (n.at.taken < n.at.view)

@@ -5,6 +5,7 @@ pub mod CoveredLaws
 pub mod EntryLaws
 pub mod FinishFacts
 pub mod GrowFacts
+pub mod Joining
 pub mod KillOrder
 pub mod LockLaws
 pub mod PassedLaws

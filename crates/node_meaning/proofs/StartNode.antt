@@ -24,8 +24,9 @@ all_apart : AreApart (locks_of empty empty)
 all_apart h g other = ap (λ keys. touches keys (keys_at (locks_of empty empty) g)) (no_keys h) ∙ touches-empty (keys_at (locks_of empty empty) g)
 
 -- over any order
-pub start_facts : (order : List Event) (id : List ℕ) (member : ℕ) → Facts order (start_node id member)
-start_facts order id member = record {
+pub start_facts : (order : List Event) (gcache : ℕ) (id : List ℕ) (member : ℕ)
+    → Facts order (start_node gcache id member)
+start_facts order gcache id member = record {
   in_order = record { committed_fits = omega arith; certified_fits = omega arith; taken_fits = omega arith };
   sendable = λ s t there. absurd (nothing s t there);
   sent = record {

@@ -1,5 +1,5 @@
 -- a cluster of model nodes over one order, and its runs
-use Rattle.std.specs.Prelude.{ℕ, suc, zero, ◌+◌, ◌-◌, List, [], ◌∷◌, ◌++◌, length, map, slice_get, Option, Some, None, if◌then◌else◌}
+use Rattle.std.specs.Prelude.{ℕ, suc, zero, ◌+◌, ◌-◌, ◌==◌, ◌&&◌, Bool, not, List, [], ◌∷◌, ◌++◌, length, map, slice_get, Option, Some, None, if◌then◌else◌}
 use Rattle.order_event.specs.declared.event.Event.{Event}
 use Rattle.order_event.specs.declared.event.Message.{Message}
 use Rattle.order_event.specs.declared.step.Act.{Act}
@@ -7,19 +7,20 @@ use Rattle.order_event.specs.declared.step.Act.TheVariants as act
 use Rattle.order_event.specs.declared.step.Answer.{Answer}
 use Rattle.order_event.specs.declared.step.Answer.TheVariants as answer
 use Rattle.order_event.specs.declared.step.Step.{Step}
-use Rattle.group_order.specs.Order.{event_of, start_order, up_to, view_without}
-use Rattle.node_meaning.specs.Node.{ModelNode, is_left, start_node}
+use Rattle.group_order.specs.Order.{event_of, start_order, up_to, view_without, view_with, new_member}
+use Rattle.node_meaning.specs.Node.{ModelNode, is_left, is_joining, start_node}
 use Rattle.node_meaning.specs.Leaving.{left_node}
+use Rattle.node_meaning.specs.Joining.{joined_node, transfer_from}
 use Rattle.node_meaning.specs.Steps.{sent_out, node_step, drained}
 
 pub record ModelCluster : Type 0 where
   pub order : List Event
   pub nodes : List ModelNode
 
--- nodes 1 to K, members 1 to K of the first view
-unfoldable pub start_cluster : ℕ → List ℕ → ModelCluster
-start_cluster nodes id =
-    record { order = start_order nodes; nodes = map (start_node id) (up_to nodes) }
+-- nodes 1 to K, members 1 to K of the first view, each with a ring of so many bytes
+unfoldable pub start_cluster : ℕ → ℕ → List ℕ → ModelCluster
+start_cluster nodes gcache id =
+    record { order = start_order nodes; nodes = map (start_node gcache id) (up_to nodes) }
 
 -- the list with this item there; past its end the list stays
 abbrev pub set_at : {A : Type 0} → List A → ℕ → A → List A
@@ -60,6 +61,32 @@ leave_now c i n = (
 abbrev pub leave : ModelCluster → ℕ → ModelNode → Answer × ModelCluster
 leave c i n = if is_left n.at.phase then (answer.Disconnected, c) else leave_now c i n
 
+-- a view with a new member is ordered, and the node waits for what it misses
+abbrev pub join_now : Bool → ModelCluster → ℕ → ModelNode → Answer × ModelCluster
+join_now fresh c i n =
+    let view = length c.order + 1 in
+    let member = new_member c.order in (
+      answer.Joining view member,
+      record {
+        order = c.order ++ view_with c.order member ∷ [];
+        nodes = set_at c.nodes i (joined_node fresh member view n);
+      },
+    )
+
+-- a node joins again once it has left and has committed all that it took
+abbrev pub join : Bool → ModelCluster → ℕ → ModelNode → Answer × ModelCluster
+join fresh c i n =
+    if not (is_left n.at.phase) then (answer.StillJoined, c)
+    else if n.at.taken == n.at.committed then join_now fresh c i n
+    else (answer.NotDrained n.at.taken n.at.committed, c)
+
+-- the node takes what it misses from another one
+abbrev pub transfer : ModelCluster → ℕ → ModelNode → ℕ → Answer × ModelCluster
+transfer c i n donor =
+    if is_joining n.at.phase
+    then with_node c i (transfer_from c.order n (slice_get c.nodes (donor - 1)))
+    else (answer.NotJoining, c)
+
 -- one step of the node at place i
 abbrev pub step_of : ModelCluster → ℕ → ModelNode → Act → Answer × ModelCluster
 step_of c i n (act.Client session call) =
@@ -74,8 +101,8 @@ step_of c i n act.Drain = drain c i n
 step_of c i n act.Report = with_node c i (node_step c.order n act.Report)
 step_of c i n act.Status = with_node c i (node_step c.order n act.Status)
 step_of c i n act.Leave = leave c i n
-step_of c i n (act.Join fresh) = (answer.Nothing, c)
-step_of c i n (act.Transfer donor) = (answer.Nothing, c)
+step_of c i n (act.Join fresh) = join fresh c i n
+step_of c i n (act.Transfer donor) = transfer c i n donor
 
 -- a step of a node that is not there does nothing
 abbrev pub step_at : ModelCluster → ℕ → Option ModelNode → Act → Answer × ModelCluster
@@ -104,7 +131,8 @@ node_orders act.Advance n = 0
 node_orders act.Report n = 0
 node_orders act.Status n = 0
 node_orders act.Leave n = if is_left n.at.phase then 0 else 1
-node_orders (act.Join fresh) n = 0
+node_orders (act.Join fresh) n =
+    if is_left n.at.phase && n.at.taken == n.at.committed then 1 else 0
 node_orders (act.Transfer donor) n = 0
 
 abbrev pub orders_at : Option ModelNode → Act → ℕ

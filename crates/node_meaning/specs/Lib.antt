@@ -2,6 +2,7 @@ pub mod Node
 pub mod Client
 pub mod Steps
 pub mod Leaving
+pub mod Joining
 pub mod Status
 pub mod Cluster
 pub mod Facts

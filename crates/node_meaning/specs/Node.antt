@@ -32,6 +32,10 @@ pub record ApplyUnit : Type 0 where
 pub record ModelNode : Type 0 where
   pub at : Progress
   pub id : List ℕ
+  -- the most that the entries of its ring of events may sum to, in bytes
+  pub gcache : ℕ
+  -- the number at which it took a snapshot of the state last; 0 where it took none
+  pub since : ℕ
   -- messages that were sent and ordered and are not taken, oldest first
   pub ordered : List Message
   -- messages that were sent and are not ordered, oldest first
@@ -43,9 +47,9 @@ pub record ModelNode : Type 0 where
   -- waiting answers, by session
   pub waiting : FiniteMap nat_cmp Reply
 
--- a node at its start
-abbrev pub start_node : List ℕ → ℕ → ModelNode
-start_node id member = record {
+-- a node at its start, with a ring of so many bytes
+abbrev pub start_node : ℕ → List ℕ → ℕ → ModelNode
+start_node gcache id member = record {
   at =
       record {
         phase = phase.Connected;
@@ -58,6 +62,8 @@ start_node id member = record {
         begin = 1;
       };
   id = id;
+  gcache = gcache;
+  since = 0;
   ordered = [];
   outbox = [];
   live = empty;

@@ -1,5 +1,5 @@
 -- The definitions at worked lines.
-use Rattle.std.proofs.Common.{◌≡◌, [], ◌∷◌, ◌++◌, replicate, None, Some, Ok, Err, refl}
+use Rattle.std.proofs.Common.{◌≡◌, true, false, [], ◌∷◌, ◌++◌, replicate, None, Some, Ok, Err, refl}
 use Rattle.std.specs.Prelude.{codes}
 use Rattle.order_event.specs.declared.step.Act.TheVariants as act
 use Rattle.row_model.specs.declared.calls.Call.TheVariants as call
@@ -9,7 +9,7 @@ use Rattle.script_text.specs.declared.line.ScriptCause.TheVariants as cause
 use Rattle.uuid.proofs.OnLiterals.{uuid_on_literals}
 use Rattle.wsrep_base.specs.StateId.{id_of}
 use Rattle.script_text.specs.Words.{text_of, words_of}
-use Rattle.script_text.specs.Fields.{number_of, counting_of, node_of, name_of, row_id_of, only_number, only_row, numbers_of, values_of, pair_of, pairs_of, change_of}
+use Rattle.script_text.specs.Fields.{number_of, counting_of, node_of, name_of, row_id_of, only_number, only_node, only_row, numbers_of, values_of, pair_of, pairs_of, change_of}
 use Rattle.script_text.specs.Grammar.{insert_of, update_of, call_of, verb_of, who_of, act_of, step_of, is_passed_over, said_of, line_of, header_at, header_of, first_of}
 
 -- the row `a` of the table `acct`
@@ -147,3 +147,27 @@ the_header : first_of (codes "cluster 1 gcache 0 id 00000000-0000-0000-0000-0000
     ≡ Ok (Some (record { nodes = 1; gcache = 0; id = replicate 15 0 ++ 161 ∷ [] }))
 unfolding text_of words_of number_of counting_of is_passed_over header_at first_of id_of uuid_on_literals
 the_header = refl
+
+joins : line_of 2 (codes "2 join\n") ≡ Ok (line.Step (record { node = 2; act = act.Join false }))
+unfolding text_of words_of number_of counting_of node_of verb_of who_of act_of step_of is_passed_over said_of line_of
+joins = refl
+
+joins_fresh : line_of 2 (codes "2 join fresh") ≡ Ok (line.Step (record { node = 2; act = act.Join true }))
+unfolding text_of words_of number_of counting_of node_of verb_of who_of act_of step_of is_passed_over said_of line_of
+joins_fresh = refl
+
+joins_otherwise : line_of 2 (codes "2 join again") ≡ Err cause.Grammar
+unfolding text_of words_of number_of counting_of node_of verb_of who_of act_of step_of is_passed_over said_of line_of
+joins_otherwise = refl
+
+transfers : line_of 2 (codes "2 transfer 1\n") ≡ Ok (line.Step (record { node = 2; act = act.Transfer 1 }))
+unfolding text_of words_of number_of counting_of node_of only_node verb_of who_of act_of step_of is_passed_over said_of line_of
+transfers = refl
+
+no_third_donor : line_of 2 (codes "2 transfer 3") ≡ Err cause.Grammar
+unfolding text_of words_of number_of counting_of node_of only_node verb_of who_of act_of step_of is_passed_over said_of line_of
+no_third_donor = refl
+
+no_donor : line_of 2 (codes "2 transfer") ≡ Err cause.Grammar
+unfolding text_of words_of number_of counting_of node_of only_node verb_of who_of act_of step_of is_passed_over said_of line_of
+no_donor = refl

@@ -18,8 +18,8 @@ use Rattle.order_event.specs.Fits.{act_fits, step_fits}
 use Rattle.script_text.specs.declared.line.Header.{Header}
 use Rattle.script_text.specs.declared.line.Line.TheVariants as line
 use Rattle.script_text.specs.Words.{text_of, words_of, ◌is◌, ◌>>=◌, alone}
-use Rattle.script_text.specs.Fields.{only_number, number_of, counting_of, node_of, only_if, is_name, name_of, is_table_letter, is_row_letter, row_id_of, only_row, values_of, pairs_of, are_columns, rises, columns_of, value_at, change_of}
-use Rattle.script_text.specs.Grammar.{begin_of, insert_of, update_of, call_of, verb_of, who_at, who_of, act_of, step_of, is_passed_over, said_of, is_short, call_is_within, act_is_within, step_is_within, line_is_within, judged, line_of, header_at, header_is_within, header_of, first_at, first_is_within, first_of}
+use Rattle.script_text.specs.Fields.{only_number, only_node, number_of, counting_of, node_of, only_if, is_name, name_of, is_table_letter, is_row_letter, row_id_of, only_row, values_of, pairs_of, are_columns, rises, columns_of, value_at, change_of}
+use Rattle.script_text.specs.Grammar.{begin_of, insert_of, update_of, call_of, join_of, verb_of, who_at, who_of, act_of, step_of, is_passed_over, said_of, is_short, call_is_within, act_is_within, step_is_within, line_is_within, judged, line_of, header_at, header_is_within, header_of, first_at, first_is_within, first_of}
 use Rattle.script_text.specs.Steps.{HasSession, IsStepOf, IsHeader}
 
 both : (a b : Bool) → a && b ≡ true → (a ≡ true) × (b ≡ true)
@@ -185,10 +185,15 @@ abbrev Acted : Act → Type 0
 Acted (act.Client session c) = Asked c × (1 ≤ session)
 Acted other = IsTrue (act_fits other) × Unit {0}
 
-verb_fits : (words : List (List ℕ)) → IfSome (verb_of words) Acted
+join_fits : (words : List (List ℕ)) → IfSome (join_of words) Acted
+join_fits [] = (refl, tt)
+join_fits (word ∷ words) =
+    chosen Acted (word is "fresh") _ _ (alone_is Acted (act.Join true) words (refl, tt)) tt
+
+verb_fits : (nodes : ℕ) (words : List (List ℕ)) → IfSome (verb_of nodes words) Acted
 unfolding verb_of
-verb_fits [] = tt
-verb_fits (verb ∷ words) =
+verb_fits nodes [] = tt
+verb_fits nodes (verb ∷ words) =
     chosen Acted (verb is "order") _ _ (alone_is Acted act.Order words (refl, tt))
     (chosen Acted (verb is "take") _ _ (alone_is Acted act.Take words (refl, tt))
     (chosen Acted (verb is "certify") _ _ (alone_is Acted act.Certify words (refl, tt))
@@ -198,15 +203,22 @@ verb_fits (verb ∷ words) =
     (chosen Acted (verb is "report") _ _ (alone_is Acted act.Report words (refl, tt))
     (chosen Acted (verb is "status") _ _ (alone_is Acted act.Status words (refl, tt))
     (chosen Acted (verb is "drain") _ _ (alone_is Acted act.Drain words (refl, tt))
-    (chosen Acted (verb is "leave") _ _ (alone_is Acted act.Leave words (refl, tt)) tt)))))))))
+    (chosen Acted (verb is "leave") _ _ (alone_is Acted act.Leave words (refl, tt))
+    (chosen Acted (verb is "join") _ _ (join_fits words)
+    (chosen Acted (verb is "transfer") _ _ of_node tt)))))))))))
   where
+    of_node : IfSome (option_map act.Transfer (only_node nodes words)) Acted
+    of_node = mapped (λ n. Unit {0}) Acted (only_node nodes words) act.Transfer
+        (anything (only_node nodes words)) (λ n any. (refl, tt))
+
     of_number : (f : ℕ → Act) → ((n : ℕ) → Acted (f n)) → IfSome (option_map f (only_number words)) Acted
     of_number f made = mapped (λ n. Unit {0}) Acted (only_number words) f (anything (only_number words)) (λ n any. made n)
 
-act_fits_here : (session : Option ℕ) (words : List (List ℕ)) → Numbered session → IfSome (act_of session words) Acted
+act_fits_here : (nodes : ℕ) (session : Option ℕ) (words : List (List ℕ)) → Numbered session
+    → IfSome (act_of nodes session words) Acted
 unfolding act_of
-act_fits_here None words some = verb_fits words
-act_fits_here (Some session) words some =
+act_fits_here nodes None words some = verb_fits nodes words
+act_fits_here nodes (Some session) words some =
     mapped Asked Acted (call_of words) (act.Client session) (call_fits_here words) (λ c has. (has, some))
 
 -- who acts
@@ -246,7 +258,7 @@ unfolding step_of
 step_is nodes [] = tt
 step_is nodes (word ∷ words) =
     chained (Known nodes) (Stepped nodes) (who_of nodes word) _ (who_is nodes word) (λ who known.
-    chained Acted (Stepped nodes) (act_of who.1 words) _ (act_fits_here who.1 words known.1) (λ a acted. (known.0, acted)))
+    chained Acted (Stepped nodes) (act_of nodes who.1 words) _ (act_fits_here nodes who.1 words known.1) (λ a acted. (known.0, acted)))
 
 -- what passes its limits was said, and passes them
 judged_ok : {X : Type 0} (short : Bool) (fits : X → Bool) (o : Option X) (x : X)

@@ -56,6 +56,11 @@ unfoldable pub only_number : List (List ℕ) → Option ℕ
 only_number [] = None
 only_number (word ∷ words) = number_of word >>= λ n. alone n words
 
+-- a node of so many, and nothing behind it
+unfoldable pub only_node : ℕ → List (List ℕ) → Option ℕ
+only_node nodes [] = None
+only_node nodes (word ∷ words) = node_of nodes word >>= λ n. alone n words
+
 -- a row, and nothing behind it
 unfoldable pub only_row : List (List ℕ) → Option RowId
 only_row [] = None

@@ -1,5 +1,5 @@
 -- what a line of a schedule says: the grammar first, and then the limits
-use Rattle.std.specs.Prelude.{ℕ, ◌+◌, ◌==◌, ◌&&◌, Bool, true, nat_le, List, [], ◌∷◌, length, take, drop, slice_index, Option, Some, None, option_map, Result, Ok, Err, if◌then◌else◌}
+use Rattle.std.specs.Prelude.{ℕ, ◌+◌, ◌==◌, ◌&&◌, Bool, true, false, nat_le, List, [], ◌∷◌, length, take, drop, slice_index, Option, Some, None, option_map, Result, Ok, Err, if◌then◌else◌}
 use Rattle.std.specs.List.{position}
 use Rattle.wsrep_base.specs.StateId.{id_of}
 use Rattle.row_model.specs.declared.calls.Call.{Call}
@@ -13,7 +13,7 @@ use Rattle.script_text.specs.declared.line.Line.TheVariants as line
 use Rattle.script_text.specs.declared.line.ScriptCause.{ScriptCause}
 use Rattle.script_text.specs.declared.line.ScriptCause.TheVariants as cause
 use Rattle.script_text.specs.Words.{without_newline, text_of, words_of, ◌is◌, ◌>>=◌, alone}
-use Rattle.script_text.specs.Fields.{number_of, only_number, counting_of, node_of, row_id_of, only_row, values_of, change_of}
+use Rattle.script_text.specs.Fields.{number_of, only_number, only_node, counting_of, node_of, row_id_of, only_row, values_of, change_of}
 
 -- `begin`, which sends no fragments, or `begin stream Q`, which sends one after each Q changes
 abbrev pub begin_of : List (List ℕ) → Option Call
@@ -55,10 +55,15 @@ call_of (verb ∷ words) =
     else if verb is "poll" then alone call.Poll words
     else None
 
--- what a node does by itself
-unfoldable pub verb_of : List (List ℕ) → Option Act
-verb_of [] = None
-verb_of (verb ∷ words) =
+-- `join`, or `join fresh`, which keeps nothing of the node's state
+abbrev pub join_of : List (List ℕ) → Option Act
+join_of [] = Some (act.Join false)
+join_of (word ∷ words) = if word is "fresh" then alone (act.Join true) words else None
+
+-- what a node does by itself, of so many
+unfoldable pub verb_of : ℕ → List (List ℕ) → Option Act
+verb_of nodes [] = None
+verb_of nodes (verb ∷ words) =
     if verb is "order" then alone act.Order words
     else if verb is "take" then alone act.Take words
     else if verb is "certify" then alone act.Certify words
@@ -69,6 +74,8 @@ verb_of (verb ∷ words) =
     else if verb is "status" then alone act.Status words
     else if verb is "drain" then alone act.Drain words
     else if verb is "leave" then alone act.Leave words
+    else if verb is "join" then join_of words
+    else if verb is "transfer" then option_map act.Transfer (only_node nodes words)
     else None
 
 -- who acts: a node, `N`, or one of its sessions, `N.S`
@@ -84,15 +91,15 @@ who_at nodes word (Some at) = do
 unfoldable pub who_of : ℕ → List ℕ → Option (ℕ × Option ℕ)
 who_of nodes word = who_at nodes word (position (λ b. b == 46) word)
 
-unfoldable pub act_of : Option ℕ → List (List ℕ) → Option Act
-act_of None words = verb_of words
-act_of (Some session) words = option_map (act.Client session) (call_of words)
+unfoldable pub act_of : ℕ → Option ℕ → List (List ℕ) → Option Act
+act_of nodes None words = verb_of nodes words
+act_of nodes (Some session) words = option_map (act.Client session) (call_of words)
 
 unfoldable pub step_of : ℕ → List (List ℕ) → Option Step
 step_of nodes [] = None
 step_of nodes (word ∷ words) = do
   who ← who_of nodes word
-  act ← act_of who.1 words
+  act ← act_of nodes who.1 words
   Some (record { node = who.0; act = act })
 
 -- a line without words, and one that begins with `#`, say nothing

@@ -1,7 +1,7 @@
 ghost use Rattle.std.specs.Prelude.{◌≡◌, ◌≤◌, ◌-◌, ◌++◌, length, replicate};
 ghost use Rattle.std.specs.Char.{is_ascii_digit};
 ghost use Rattle.std.specs.List.{list_all};
-ghost use Rattle.script_text.specs.Fields.{number_of, only_number, counting_of, node_of, name_of};
+ghost use Rattle.script_text.specs.Fields.{number_of, only_number, counting_of, node_of, only_node, name_of};
 ghost use Rattle.script_text.specs.Fields.{is_table_letter, is_row_letter, row_id_of, only_row};
 ghost use Rattle.script_text.specs.Fields.{values_of, pair_of, change_of};
 
@@ -110,6 +110,15 @@ pub(crate) fn only_number(words: &mut Words) -> Option<u64>
 {
     let word = words.next()?;
     alone(number(word)?, words)
+}
+
+// A node of so many, and nothing behind it.
+#[tactic(auto, unfolding(crate::specs::Fields::only_node))]
+pub(crate) fn only_node(words: &mut Words, nodes: u8) -> Option<u8>
+    ensures { result ≡ only_node nodes words.old }
+{
+    let word = words.next()?;
+    alone(node(word, nodes)?, words)
 }
 
 // A row, and nothing behind it.

@@ -1,9 +1,9 @@
 ghost use Rattle.std.specs.Prelude.{◌≡◌, Some, option_map};
-ghost use Rattle.script_text.specs.Grammar.{verb_of, who_of, step_of, call_is_within, act_is_within, step_is_within, judged};
+ghost use Rattle.script_text.specs.Grammar.{join_of, verb_of, who_of, step_of, call_is_within, act_is_within, step_is_within, judged};
 ghost use Rattle.script_text.specs.Written.{step_written};
 
 use crate::calls::call;
-use crate::fields::{counting, node, only_number};
+use crate::fields::{counting, node, only_node, only_number};
 use crate::line::ScriptCause;
 use crate::words::{Words, alone, is, place_of};
 use order_event::{Act, Step};
@@ -38,7 +38,7 @@ fn written_step(words: &mut Words, nodes: u8) -> Option<WrittenStep>
 {
     match who(words.next()?, nodes)? {
         (node, Some(session)) => Some(WrittenStep::Session(node, session, call(words)?)),
-        (node, None) => Some(WrittenStep::Node(node, verb(words)?)),
+        (node, None) => Some(WrittenStep::Node(node, verb(words, nodes)?)),
     }
 }
 
@@ -97,10 +97,10 @@ fn who(word: &[u8], nodes: u8) -> Option<(u8, Option<u64>)>
     }
 }
 
-// What a node does by itself.
+// What a node does by itself, of so many.
 #[tactic(auto, unfolding(crate::specs::Grammar::verb_of))]
-fn verb(words: &mut Words) -> Option<Act>
-    ensures { result ≡ verb_of words.old }
+fn verb(words: &mut Words, nodes: u8) -> Option<Act>
+    ensures { result ≡ verb_of nodes words.old }
 {
     let verb = words.next()?;
     if is(verb, b"order") {
@@ -123,7 +123,27 @@ fn verb(words: &mut Words) -> Option<Act>
         alone(Act::Drain, words)
     } else if is(verb, b"leave") {
         alone(Act::Leave, words)
+    } else if is(verb, b"join") {
+        join(words)
+    } else if is(verb, b"transfer") {
+        Some(Act::Transfer(only_node(words, nodes)?))
     } else {
         None
+    }
+}
+
+// A join, which keeps the node's state, or a fresh one.
+fn join(words: &mut Words) -> Option<Act>
+    ensures { result ≡ join_of words.old }
+{
+    match words.next() {
+        None => Some(Act::Join(false)),
+        Some(word) => {
+            if is(word, b"fresh") {
+                alone(Act::Join(true), words)
+            } else {
+                None
+            }
+        }
     }
 }

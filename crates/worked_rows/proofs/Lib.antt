@@ -2,3 +2,4 @@ mod Commits
 mod Units
 mod Streaming
 mod Leaving
+mod Joining

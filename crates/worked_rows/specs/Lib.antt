@@ -3,3 +3,4 @@ pub mod Commits
 pub mod Units
 pub mod Streaming
 pub mod Leaving
+pub mod Joining

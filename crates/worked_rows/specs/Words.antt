@@ -43,10 +43,13 @@ first value = Some value ∷ replicate 7 None
 abbrev pub third : ℕ → List (Option ℕ)
 third value = None ∷ None ∷ Some value ∷ replicate 5 None
 
--- a run from the start over so many nodes gives each step its answer
+-- a run from the start, with rings of so many bytes and so many nodes, gives each step its answer
+abbrev pub ComputesIn : ℕ → ℕ → List (Step × Answer) → Type 0
+ComputesIn gcache nodes rows =
+    (run (map (λ r. r.0) rows) (start_cluster nodes gcache state_id)).0 ≡ map (λ r. r.1) rows
+
 abbrev pub Computes : ℕ → List (Step × Answer) → Type 0
-Computes nodes rows =
-    (run (map (λ r. r.0) rows) (start_cluster nodes state_id)).0 ≡ map (λ r. r.1) rows
+Computes nodes rows = ComputesIn 65536 nodes rows
 
 abbrev pub id_at : List ℕ → List ℕ → RowId
 id_at table row = record { table = table; row = row }

@@ -10,5 +10,5 @@ use Rattle.cluster_core.proofs.cluster.seats_of.Given as goal
 
 abbrev pub invariant-loop-before : goal.invariant-loop-before
 invariant-loop-before g l =
-    (nodes_of l.seats.items ≡ map (start_node l.fn.id) (up_to l.before))
+    (nodes_of l.seats.items ≡ map (start_node l.fn.gcache l.fn.id) (up_to l.before))
     × ((order : List Event) → AllByRecursion (λ s. IsSeated order (seen s)) l.seats.items)

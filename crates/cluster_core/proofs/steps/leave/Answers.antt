@@ -1,5 +1,5 @@
 -- The group orders the view that the model orders, and the node leaves as the model's does.
-use Rattle.std.proofs.Common.{◌≡◌, ap, sym, subst, ◌∙◌}
+use Rattle.std.proofs.Common.{arith, ◌≡◌, ap, sym, subst, ◌∙◌}
 use Rattle.node_meaning.specs.Node.{is_left}
 use Rattle.order_event.specs.declared.step.Act.TheVariants as act
 use Rattle.cluster_core.specs.Seated.{seen}
@@ -28,6 +28,7 @@ returns-clause-ok g c =
     left_now (g.G.Group.order c.args.group.now) (g.G.Group.order c.leave.new.self) (seen c.args.seat.now) c.leave-watcher.new.self.parts
     c.in_ok-number.number
     (ap is_left (sym c.place-place.ensures.phase) ∙ sym c.has_left.ensures ∙ c.if-has_left.false)
+    (let few = c.requires.events in omega (arith, few))
     (let e = c.in_ok-number.ensures.ok in let f = c.place-place.ensures.member in cc)
     c.in_ok-number.ensures.number
     (c.leave-watcher.ensures.does (g.G.Group.order c.args.group.now) c.requires.kept.seated.stands) c.requires.kept

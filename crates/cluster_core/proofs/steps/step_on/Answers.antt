@@ -1,9 +1,10 @@
 -- The steps that may want memory, and those that do nothing.
-use Rattle.std.proofs.Common.{◌≡◌, refl, arith}
+use Rattle.std.proofs.Common.{◌≡◌, refl, subst, arith}
 use Rattle.order_event.specs.declared.step.Act.TheVariants as act
 use Rattle.cluster_core.specs.Seated.{seen}
+use Rattle.cluster_core.specs.Transfers.{IsAlone}
 use Rattle.cluster_core.specs.declared.fault.StepFault.TheVariants as fault
-use Rattle.cluster_core.proofs.ActLaws.{acted_alone, acted_nothing, err_by, client_failed, certify_failed, start_failed, report_failed}
+use Rattle.cluster_core.proofs.ActLaws.{acted_alone, err_by, client_failed, certify_failed, start_failed, report_failed}
 use Rattle.cluster_core.proofs.steps.step_on.Goals as goal
 
 pub returns-in-Status-clause-ok : goal.returns-in-Status-clause-ok
@@ -13,13 +14,8 @@ returns-in-Status-clause-ok g c =
     (c.status.ensures (g.G.Group.order c.args.group.now) (let few = c.requires.events in omega (arith, few)) c.requires.kept.seated)
     (λ _ _ _. refl))
 
-pub returns-in-Join-clause-ok : goal.returns-in-Join-clause-ok
-returns-in-Join-clause-ok g c =
-    rw c.in-Join.is (acted_nothing (act.Join _) (g.G.Group.order c.args.group.now) (seen c.args.seat.now) c.requires.kept (λ _ _ _. refl))
-
-pub returns-in-Transfer-clause-ok : goal.returns-in-Transfer-clause-ok
-returns-in-Transfer-clause-ok g c =
-    rw c.in-Transfer.is (acted_nothing (act.Transfer _) (g.G.Group.order c.args.group.now) (seen c.args.seat.now) c.requires.kept (λ _ _ _. refl))
+pub unreachable-requires : goal.unreachable-requires
+unreachable-requires g c = subst IsAlone c.in-Transfer.is c.requires.alone
 
 pub returns-in_err-client-in-Client-clause-err : goal.returns-in_err-client-in-Client-clause-err
 returns-in_err-client-in-Client-clause-err g c =

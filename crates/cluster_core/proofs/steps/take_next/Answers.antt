@@ -2,7 +2,6 @@
 use Rattle.std.proofs.Common.{sym, subst, ◌∙◌, ap, ◌+◌, ◌≡◌}
 use Rattle.std.specs.Prelude.{Some, is_some, IsSome}
 use Rattle.order_event.specs.declared.step.Act.TheVariants as act
-use Rattle.order_event.specs.Spelling.{HasFewMembers}
 use Rattle.group_order.specs.Causes as cause
 use Rattle.group_order.specs.Order.{event_at}
 use Rattle.node_core.specs.Stands.{plain_of}
@@ -11,7 +10,9 @@ use Rattle.cluster_core.specs.declared.fault.StepFault.TheVariants as fault
 use Rattle.cluster_core.specs.Faults.{step_fault}
 use Rattle.cluster_core.specs.Steps.{MayFail}
 use Rattle.cluster_core.specs.Acts.{Failed}
-use Rattle.cluster_core.proofs.ActLaws.{take_acted, take_nothing, take_not_connected, take_failed, take_wants, event_failed, next_event, all_at, err_by}
+use Rattle.cluster_core.proofs.ActLaws.{take_acted, take_nothing, take_not_connected, take_failed, take_wants, event_failed, next_event, err_by}
+use Rattle.cluster_core.specs.Orders.{EventFits}
+use Rattle.cluster_core.proofs.OrderLaws.{all_at, few_of}
 use Rattle.cluster_core.proofs.steps.take_next.Goals as goal
 
 pub returns-then-not-is_connected-clause-ok : goal.returns-then-not-is_connected-clause-ok
@@ -30,9 +31,10 @@ returns-in_err-event-clause-err g c =
 
 pub take-requires-clause-members : goal.take-requires-clause-members
 take-requires-clause-members g c =
-    all_at HasFewMembers (g.G.Group.order c.args.group.now) c.args.seat.now.node.parts.at.taken c.in-Some.event c.requires.kept.few
+    few_of c.in-Some.event
+    (all_at EventFits (g.G.Group.order c.args.group.now) c.args.seat.now.node.parts.at.taken c.in-Some.event c.requires.kept.order_kept.fits
     (sym (sym c.in-Some.is ∙ c.in_ok-event.ensures.ok ∙ ap (λ k. event_at (g.G.Group.order c.args.group.now) (k + 1)) c.taken.ensures
-    ∙ next_event (g.G.Group.order c.args.group.now) c.args.seat.now.node.parts.at.taken))
+    ∙ next_event (g.G.Group.order c.args.group.now) c.args.seat.now.node.parts.at.taken)))
 
 pub returns-in_err-take-in-Some-clause-err : goal.returns-in_err-take-in-Some-clause-err
 returns-in_err-take-in-Some-clause-err g c =

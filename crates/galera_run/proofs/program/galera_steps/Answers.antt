@@ -37,8 +37,8 @@ returns-in-Ok-None-clause-right g c =
     let other : IsSteps (map string_bytes c.args.words.now) → ⊥ = search rules in
     (λ is. absurd (other is), asked_replicates (map string_bytes c.args.words.now))
 
-pub returns-in-Err-clause-right : goal.returns-in-Err-clause-right
-returns-in-Err-clause-right g c =
+pub returns-clause-right : goal.returns-clause-right
+returns-clause-right g c =
     let other : IsSteps (map string_bytes c.args.words.now) → ⊥ = search rules in
     (λ is. absurd (other is), asked_replicates (map string_bytes c.args.words.now))
 
@@ -71,7 +71,7 @@ returns-in-Ok-None-clause-whole g c =
           (sym (sym c.in-Ok-None.field-0-is ∙ c.in-Ok-None.ensures.ok)),
     )
 
-pub returns-in-Err-clause-whole : goal.returns-in-Err-clause-whole
-returns-in-Err-clause-whole g c =
+pub returns-clause-whole : goal.returns-clause-whole
+returns-clause-whole g c =
     let other : IsSteps (map string_bytes c.args.words.now) → ⊥ = search rules in
     (λ is. absurd (other is), wanting_whole (load_asked (map string_bytes c.args.words.now)) _ _ _ _ _ refl)

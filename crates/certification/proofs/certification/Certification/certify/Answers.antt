@@ -24,7 +24,7 @@ keep_changes-requires-clause-newest c earlier item there =
 pub returns-clause-ok : goal.returns-clause-ok
 returns-clause-ok c order committed certified is fits there =
     is_next order committed certified _ (subst (Certifies order committed certified) (sym c.self.view_is) is) c.args.event.now _ c.in_ok-told.told.judged
-    c.in_ok-told.told.changes fits there c.in_ok-told.ensures.judged c.in_ok-told.ensures.changes refl (omega arith) c.in_ok-told.ensures.state
+    c.in_ok-told.told.changes fits there c.in_ok-told.ensures.judged c.in_ok-told.ensures.changes refl c.in_ok-told.ensures.state
     (c.keep_changes.ensures
     ∙ ap (λ ops. with_changes c.in_ok-told.told.judged ops c.number-number.result c.in_ok-told.told.changes) c.in_ok-reserve_one.ensures.ops
     ∙ ap (λ n. with_changes c.in_ok-told.told.judged c.self.inside.passed.ops n c.in_ok-told.told.changes) c.number-number.ensures)

@@ -14,4 +14,4 @@ returns-clause-ok c order st =
     (is_free (get c.args.self.now.live c.args.session) (sym c.contains.ensures ∙ c.if-contains.false))
     (ap (λ (live : FiniteMap nat_cmp Live). record (plain_of c.args.self.now) { at = record at { begin = at.begin + 1 }; live = live })
     (c.put.ensures ∙ ap (insert c.args.self.now.live c.args.session) c.in_ok-trx.ensures))
-    refl refl refl refl refl st
+    (record { ring = refl; since = refl; id = refl }) refl refl refl refl refl st

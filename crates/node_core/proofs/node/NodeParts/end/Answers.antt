@@ -11,4 +11,4 @@ pub returns : goal.returns
 returns c =
     moves_ended c.args.self.now _ c.args.session
     (ap (λ (live : FiniteMap nat_cmp Live). record (plain_of c.args.self.now) { live = live }) c.take-ended.ensures.after)
-    refl refl refl c.release.ensures.locks c.roll_back.ensures.committed c.roll_back.ensures.changes c.roll_back.ensures.spare
+    (record { ring = refl; since = refl; id = refl }) refl refl refl c.release.ensures.locks c.roll_back.ensures.committed c.roll_back.ensures.changes c.roll_back.ensures.spare

@@ -1,0 +1,9 @@
+pub mod MarkLemmas
+pub mod SpotLemmas
+pub mod PlaceLemmas
+pub mod LatestLemmas
+pub mod MeetLemmas
+pub mod KindLemmas
+pub mod FollowingLaws
+pub mod IndexLemmas
+pub mod DropLemmas

@@ -1,0 +1,4 @@
+pub mod Spots
+pub mod HeldIndex
+pub mod OpenSet
+pub mod Following
