@@ -2,8 +2,10 @@
 use Rattle.std.proofs.Common.{◌≡◌, ℕ, Bool, true, false, cond, not, List, [], ◌∷◌, ◌++◌, Option, Some, refl, sym, ap, ◌∙◌}
 use Rattle.std.specs.Prelude.{flat_map, filter, map}
 use Rattle.std.specs.Ordering.{eq_by_cmp}
+use Rattle.std.specs.FinMap.Entries.{find}
 use Rattle.std.proofs.lemmas.List.Elements.{filter-append}
 use Rattle.finite_map.specs.FiniteMap.{FiniteMap, remove, retain_keys}
+use Rattle.finite_map.proofs.Edits.{tied}
 use Rattle.wsrep_base.specs.declared.ids.TrxId.{TrxId}
 use Rattle.wsrep_base.specs.Trx.{trx_cmp, greatest}
 use Rattle.key_sets.specs.Keys.{Keys, touches}
@@ -11,6 +13,7 @@ use Rattle.cert_meaning.specs.State.{Fragment, fragments_but}
 use Rattle.cert_meaning.specs.Extremes.{greater}
 use Rattle.cert_meaning.specs.Verdict.{greatest_touching}
 use Rattle.cert_meaning.proofs.ExtremeLemmas.{greatest-append, greatest-step, greater-assoc}
+use Rattle.cert_meaning.proofs.TrxLemmas.{transactions}
 
 -- the fragments of the transactions that are left but one
 abbrev pub left_but : TrxId → List (TrxId × List Fragment) → List Fragment
@@ -53,3 +56,13 @@ but-step so_far trx entry rest keys false is =
     greater-assoc so_far (greatest_touching entry.1 keys) (greatest_touching (left_but trx rest) keys)
     ∙ ap (greater so_far) (sym (touching-append entry.1 (left_but trx rest) keys))
     ∙ ap (λ b. greater so_far (greatest_touching (flat_map (λ e. e.1) (cond (not b) (entry ∷ filter (λ e. not (eq_by_cmp trx_cmp trx e.0)) rest) (filter (λ e. not (eq_by_cmp trx_cmp trx e.0)) rest))) keys)) (sym is)
+
+-- a transaction that differs from the first is behind it
+pub find-behind : (t u : TrxId) (here : List Fragment) (es : List (TrxId × List Fragment))
+    → (t ≡ u → ⊥) → find trx_cmp t ((u, here) ∷ es) ≡ find trx_cmp t es
+find-behind t u here es apart = by (eq_by_cmp trx_cmp t u) refl
+  where
+    by : (b : Bool) → eq_by_cmp trx_cmp t u ≡ b
+        → cond b (Some here) (find trx_cmp t es) ≡ find trx_cmp t es
+    by true tie = absurd (apart (tied transactions t u tie))
+    by false other = refl

@@ -9,3 +9,4 @@ pub mod Extremes
 pub mod Whole
 pub mod Parts
 pub mod Changes
+pub mod OpenSearch

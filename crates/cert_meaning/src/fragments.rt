@@ -15,7 +15,7 @@ use std::alloc::{AllocError, Global};
 use wsrep_base::NoMemory;
 
 /// The last seen of the last fragment, 0 where there is none.
-pub(crate) fn last_seen_of(fragments: &[Fragment]) -> u64
+pub fn last_seen_of(fragments: &[Fragment]) -> u64
     ensures { result ≡ last_seen_of fragments.now }
 {
     match fragments.last() {
@@ -83,11 +83,7 @@ pub(crate) fn add_all(all: &mut KeySet, keys: &KeySet) -> Result<bool, NoMemory>
 }
 
 /// All changes of a transaction with one more write set, in order.
-pub(crate) fn whole_ops(
-    alloc: Global,
-    fragments: &[Fragment],
-    ops: &[Op],
-) -> Result<OpList, NoMemory>
+pub fn whole_ops(alloc: Global, fragments: &[Fragment], ops: &[Op]) -> Result<OpList, NoMemory>
     ensures { IfOk result (λ whole. whole ≡ whole_ops fragments.now ops.now) }
 {
     let mut whole = OpList::new(alloc);

@@ -15,9 +15,12 @@ mod sets;
 mod state;
 mod unions;
 
+pub use fragments::{last_seen_of, whole_ops};
 pub use items::{CommitItem, CommitList, Fragment, FragmentList, JudgedList, Told, Whole};
 pub use judging::verdicts;
 pub use laws::fold_laws;
 pub use members::Standing;
+pub use open_table::OpenTable;
 pub use parts::{MemberItem, MemberItemList, OpenItem, OpenList, StateParts};
+pub use sets::{decoded, is_rollback, is_start, judged_as, trx_of};
 pub use state::FoldState;

@@ -7,6 +7,7 @@ ghost use Rattle.cert_meaning.specs.Verdict.{greatest_touching};
 ghost use Rattle.cert_meaning.specs.Fold.{is_of};
 
 mod parts;
+mod search;
 mod whole;
 
 use crate::fragments::greatest_touching;
@@ -20,7 +21,7 @@ use wsrep_base::{NoMemory, TrxId};
 
 /// The open transactions, each with its passed fragments.
 #[derive(Drop)]
-pub(crate) struct OpenTable {
+pub struct OpenTable {
     open: BTreeMap<TrxId, Gathered>,
 }
 
@@ -37,7 +38,7 @@ impl Model for OpenTable {
 
 impl OpenTable {
     /// No transaction. It takes no memory.
-    pub(crate) fn new(alloc: Global) -> OpenTable
+    pub fn new(alloc: Global) -> OpenTable
         ensures { result ≡ empty }
     {
         OpenTable {
@@ -45,20 +46,22 @@ impl OpenTable {
         }
     }
 
-    pub(crate) fn len(&self) -> usize
+    /// How many are open.
+    pub fn len(&self) -> usize
         ensures { result ≡ len self.now }
     {
         self.open.len()
     }
 
-    pub(crate) fn is_open(&self, trx: TrxId) -> bool
+    /// Whether the transaction is open.
+    pub fn is_open(&self, trx: TrxId) -> bool
         ensures { result ≡ is_some (get self.now trx) }
     {
         self.open.contains_key(&trx)
     }
 
     /// The fragments of a transaction, none where it is not open.
-    pub(crate) fn fragments(&self, trx: TrxId) -> &[Fragment]
+    pub fn fragments(&self, trx: TrxId) -> &[Fragment]
         ensures { result.now ≡ unwrap_or (get self.now trx) [] }
     {
         match self.gathered(trx) {
@@ -75,12 +78,7 @@ impl OpenTable {
     }
 
     /// Adds a fragment to its transaction, which then is open.
-    pub(crate) fn add(
-        &mut self,
-        alloc: Global,
-        trx: TrxId,
-        fragment: Fragment,
-    ) -> Result<(), NoMemory>
+    pub fn add(&mut self, alloc: Global, trx: TrxId, fragment: Fragment) -> Result<(), NoMemory>
         requires { len (whole_keys (unwrap_or (get self.old trx) []) fragment.keys) ≤ LIMIT }
         ensures ok { OnOk result
             (self.new ≡ insert self.old trx (unwrap_or (get self.old trx) [] ++ fragment ∷ [])) }
@@ -98,21 +96,21 @@ impl OpenTable {
     }
 
     /// The transaction is open no longer.
-    pub(crate) fn close(&mut self, trx: TrxId)
+    pub fn close(&mut self, trx: TrxId)
         ensures { self.new ≡ remove self.old trx }
     {
         let _ = self.open.remove(&trx);
     }
 
     /// Only transactions of these members stay.
-    pub(crate) fn keep_of(&mut self, members: &[u32])
+    pub fn keep_of(&mut self, members: &[u32])
         ensures { self.new ≡ retain_keys self.old (is_of members.now) }
     {
         self.open.retain(|trx, _| members.contains(&trx.member));
     }
 
-    /// The greatest fragment of another transaction whose keys touch.
-    pub(crate) fn held_by(&self, keys: &KeySet, other_than: TrxId) -> Option<u64>
+    /// The greatest fragment of another transaction whose keys touch. It costs all fragments.
+    pub fn held_by(&self, keys: &KeySet, other_than: TrxId) -> Option<u64>
         ensures { result ≡ greatest_touching (fragments_but self.now other_than) keys.now }
     {
         let mut greatest = None;

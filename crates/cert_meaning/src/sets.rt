@@ -10,7 +10,7 @@ use write_set::{END, ROLLBACK, START, WriteSet, WsFault, decode};
 use wsrep_base::{Judged, NoMemory, TrxId, Verdict};
 
 /// The write set that the bytes spell. None where they spell none.
-pub(crate) fn decoded(alloc: Global, body: &Bytes) -> Result<Option<WriteSet>, NoMemory>
+pub fn decoded(alloc: Global, body: &Bytes) -> Result<Option<WriteSet>, NoMemory>
     ensures { IfOk result (λ set. set ≡ decoded body.now) }
 {
     match decode(alloc, body.as_slice()) {
@@ -21,7 +21,7 @@ pub(crate) fn decoded(alloc: Global, body: &Bytes) -> Result<Option<WriteSet>, N
 }
 
 /// The transaction of a write set.
-pub(crate) fn trx_of(set: &WriteSet) -> TrxId
+pub fn trx_of(set: &WriteSet) -> TrxId
     ensures { result ≡ trx_of set.now }
 {
     TrxId {
@@ -31,7 +31,7 @@ pub(crate) fn trx_of(set: &WriteSet) -> TrxId
 }
 
 /// Whether it is the first of its transaction.
-pub(crate) fn is_start(set: &WriteSet) -> bool
+pub fn is_start(set: &WriteSet) -> bool
     ensures { result ≡ is_start set.now }
 {
     set.flags == START || set.flags == START + END
@@ -45,14 +45,14 @@ fn is_end(set: &WriteSet) -> bool
 }
 
 /// Whether it rolls its transaction back.
-pub(crate) fn is_rollback(set: &WriteSet) -> bool
+pub fn is_rollback(set: &WriteSet) -> bool
     ensures { result ≡ is_rollback set.now }
 {
     set.flags == ROLLBACK
 }
 
 /// What becomes of a write set by its verdict.
-pub(crate) fn judged_as(set: &WriteSet, verdict: Verdict) -> Judged
+pub fn judged_as(set: &WriteSet, verdict: Verdict) -> Judged
     ensures { result ≡ judged_as set.now verdict }
 {
     match verdict {

@@ -11,7 +11,7 @@ use Rattle.cert_meaning.specs.Fold.{after, after_next, state_at}
 use Rattle.cert_meaning.proofs.FoldLaws.{state_at-append, state_at-next}
 use Rattle.cert_meaning.proofs.FloorLaws.{floor_rises}
 use Rattle.certification.specs.Laws.{SameVerdictTrimmed, TrimmedGoesOn}
-use Rattle.certification.proofs.Needed.{verdict_same, after_same, trim-needed}
+use Rattle.certification.proofs.Needed.{verdict_same, after_same, trim-purged}
 
 pub same_verdict : SameVerdictTrimmed
 same_verdict s member w = verdict_same s.floor s (omega arith) member w
@@ -60,4 +60,4 @@ floor-next order n e = either (nat_le n (length order)) refl
 pub goes_on : TrimmedGoesOn
 goes_on order n e =
     let s = state_at order n in
-    trim-needed s.floor (after (trim s) e) (after s e) (after_same s.floor s (omega arith) e) (floor-next order n e)
+    trim-purged s.floor (after (trim s) e) (after s e) (after_same s.floor s (omega arith) e) (floor-next order n e)

@@ -12,8 +12,8 @@ abbrev pub SameVerdictTrimmed : Type 0
 SameVerdictTrimmed =
     (s : FoldState) (member : ℕ) (w : WriteSet) → verdict (trim s) member w ≡ verdict s member w
 
--- at each point of an order, an event leads from the state and from the state trimmed to states that
--- trimmed are the same
+-- at each point of an order, an event leads from the state and from the state trimmed to states
+-- that trimmed are the same
 abbrev pub TrimmedGoesOn : Type 0
 TrimmedGoesOn =
     (order : List Event) (n : ℕ) (e : Event)

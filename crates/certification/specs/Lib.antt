@@ -1,3 +1,3 @@
 pub mod Certifies
-pub mod Counting
 pub mod Laws
+pub mod Indexed

@@ -1,18 +1,23 @@
-ghost use Rattle.std.specs.Prelude.{◌≡◌, ◌≤◌, ◌+◌, ◌-◌, ◌^◌, ◌<◌, ℕ, min, List, length, Some, slice_get, IfOk, OnErr};
+ghost use Rattle.std.specs.Prelude.{◌≡◌, ◌≤◌, ◌+◌, ◌<◌, ℕ, min, List, length, slice_get, Some, IfOk, OnErr};
 ghost use Rattle.std.specs.Option.{option_copied};
 ghost use Rattle.order_event.specs.declared.event.Event.{Event as Ordered};
 ghost use Rattle.finite_map.specs.FiniteMap.{len};
+ghost use Rattle.cert_meaning.specs.State.{RiseWithin};
 ghost use Rattle.cert_meaning.specs.Fold.{set_in, state_at};
-ghost use Rattle.cert_meaning.specs.Parts.{trim};
+ghost use Rattle.cert_meaning.specs.Parts.{members_of, parts_of, state_of, trim};
+ghost use Rattle.cert_meaning.specs.declared.items.CommitItem.{CommitItem as Commit};
+ghost use Rattle.view_change.specs.Membership.{IsSettled};
+ghost use Rattle.cert_index.specs.Index.{only_above};
+ghost use Rattle.node_meaning.specs.Node.{passed_at};
 ghost use Rattle.node_meaning.specs.Status.{index_count};
 ghost use Rattle.node_meaning.specs.Units.{judged_at};
 ghost use Rattle.node_parts.specs.Passed.{AllBefore};
-ghost use Rattle.certification.specs.Certifies.{Certifies, CanCertify, IsNext, commit_with, touching_between, holder_of, changes_with, with_changes};
+ghost use Rattle.certification.specs.Certifies.{Certifies, CanCertify, IsNext, commit_with, holder_of, changes_with, in_the_way, purged, with_passed};
 
-use crate::counting::count_above;
-use cert_meaning::{CommitItem, FoldState};
+use crate::indexed::Indexed;
+use cert_meaning::{CommitItem, StateParts};
 use key_sets::KeySet;
-use node_parts::Passed;
+use node_parts::{Passed, PassedCommit};
 use order_event::Event;
 use row_model::OpList;
 use std::alloc::Global;
@@ -30,13 +35,14 @@ pub struct Certified {
 }
 
 /// The certification part of a node. What it answers is told over the order that it certifies, and
-/// over the number up to which that is committed.
+/// over the number up to which that is committed. It keeps the commits above that number, and those
+/// against which a write set may still be tested.
 #[derive(Drop)]
 pub struct Certification {
-    state: FoldState,
-    /// Commits up to this number may be missing.
-    dropped: u64,
-    /// The changes of passed commits that are not committed.
+    state: Indexed,
+    /// All numbers up to this one are committed.
+    committed: u64,
+    /// The passed commits that are not committed.
     passed: Passed,
     /// What became of the numbers that are certified and not committed, oldest first.
     verdicts: VecDeque<Judged>,
@@ -49,8 +55,8 @@ impl Model for Certification {
 
     ghost view = { λ c. record {
       state = c.state;
-      dropped = c.dropped;
-      changes = c.passed.ops;
+      committed = c.committed;
+      passed = c.passed.commits;
       verdicts = c.verdicts.items;
     } };
 }
@@ -61,36 +67,41 @@ impl Certification {
         ensures { IfOk result (λ c. (order : List Ordered) → Certifies order 0 0 c) }
     {
         Ok(Certification {
-            state: FoldState::empty(alloc)?,
-            dropped: 0,
+            state: Indexed::new(alloc)?,
+            committed: 0,
             passed: Passed::new(alloc),
             verdicts: VecDeque::new(alloc),
         })
     }
 
-    /// From a trimmed state at a number, up to which all is committed. It takes no memory.
-    pub fn installed(alloc: Global, state: FoldState) -> Certification
-        ensures { (order : List Ordered) (number : ℕ) → number ≤ length order
-            → state ≡ trim (state_at order number) → Certifies order number number result }
+    /// From the parts of a trimmed state at a number, up to which all is committed.
+    pub fn installed(alloc: Global, parts: StateParts) -> Result<Certification, NoMemory>
+        requires rise { RiseWithin 0 parts.number parts.commits }
+        requires settled { IsSettled
+            (record { members = members_of parts.members; floor = parts.floor }) }
+        ensures { IfOk result
+            (λ c. (order : List Ordered) (number : ℕ) → number ≤ length order
+            → state_of parts ≡ trim (state_at order number)
+            → Certifies order number number c) }
     {
-        Certification {
-            dropped: state.floor(),
-            state,
+        let committed = parts.number;
+        Ok(Certification {
+            state: Indexed::of(alloc, parts)?,
+            committed,
             passed: Passed::new(alloc),
             verdicts: VecDeque::new(alloc),
-        }
+        })
     }
 
-    /// The state, for a snapshot: trimmed it is that of the order.
-    pub fn state(&self) -> &FoldState
-        ensures { (order : List Ordered) (committed certified : ℕ)
-            → Certifies order committed certified self.now
-            → trim result.now ≡ trim (state_at order certified) }
+    /// The parts of the state, for a snapshot, without its rows.
+    pub fn parts(&self) -> Result<StateParts, NoMemory>
+        ensures { IfOk result (λ parts. parts ≡ parts_of self.now.state) }
     {
-        &self.state
+        self.state.parts()
     }
 
-    /// Certifies the next event of the order. It costs the commits above what a write set has seen.
+    /// Certifies the next event of the order. It costs a few look-ups for each key, and the
+    /// commits that it forgets.
     pub fn certify(&mut self, event: &Event) -> Result<Certified, NoMemory>
         requires { CanCertify self.old }
         ensures ok { IfOk result
@@ -103,10 +114,15 @@ impl Certification {
     {
         self.passed.reserve_one()?;
         self.verdicts.reserve(1)?;
-        let told = self.state.step_told(event)?;
+        let told = self.state.step(event)?;
         let number = self.state.number();
-        keep_changes(&mut self.passed, number, told.judged, told.changes);
+        let commit = PassedCommit {
+            changes: told.changes,
+            dependency: told.dependency,
+        };
+        keep_commit(&mut self.passed, number, told.judged, commit);
         self.verdicts.push_back_reserved(told.judged);
+        self.purge();
         Ok(Certified {
             judged: told.judged,
             set: told.set,
@@ -125,7 +141,19 @@ impl Certification {
             → number ≡ committed + 1 → Certifies order number certified self.new }
     {
         self.passed.remove(number);
+        self.committed = number;
+        self.purge();
         self.verdicts.pop_front()
+    }
+
+    // Forgets the commits that are committed and against which no write set is tested any more.
+    fn purge(&mut self)
+        ensures { self.new ≡ record self.old {
+          state = purged (min self.old.state.floor self.old.committed) self.old.state;
+        } }
+    {
+        let to = self.state.floor().min(self.committed);
+        self.state.purge(to);
     }
 
     /// The passed commit with this number, which is not committed. It costs a search by halves.
@@ -136,13 +164,18 @@ impl Certification {
         self.state.commit_at(number)
     }
 
-    /// The greatest passed commit above what is committed and below another number whose keys
-    /// touch. It costs the commits between them, and a search by halves.
-    #[tactic(auto, unfolding(crate::specs::Certifies::touching_between))]
-    pub fn touching_between(&self, committed: u64, below: u64, keys: &KeySet) -> Option<u64>
-        ensures { result ≡ touching_between committed below keys.now self.now }
+    /// The greatest passed commit above what is committed that comes before the passed one with
+    /// this number, and touches it. It costs a search by halves.
+    pub fn in_the_way(&self, number: u64) -> Option<u64>
+        ensures { (order : List Ordered) (committed certified : ℕ) (commit : Commit)
+            → Certifies order committed certified self.now
+            → committed < number → passed_at order committed certified number ≡ Some commit
+            → result ≡ in_the_way order committed certified number commit.keys }
     {
-        self.state.touching_between(committed, below, keys)
+        match self.passed.get(number) {
+            Some(commit) => only_above(self.committed, commit.dependency),
+            None => None,
+        }
     }
 
     /// All changes of the passed commit with this number, which is not committed.
@@ -150,10 +183,14 @@ impl Certification {
     pub fn changes_of(&self, number: u64) -> Option<&OpList>
         ensures { option_copied result ≡ changes_with number self.now }
     {
-        self.passed.get(number)
+        match self.passed.get(number) {
+            Some(commit) => Some(&commit.changes),
+            None => None,
+        }
     }
 
-    /// The greatest fragment of another open transaction whose keys touch.
+    /// The greatest fragment of another open transaction whose keys touch. It costs a few look-ups
+    /// for each key.
     #[tactic(auto, unfolding(crate::specs::Certifies::holder_of))]
     pub fn held_by(&self, keys: &KeySet, other_than: TrxId) -> Option<u64>
         ensures { result ≡ holder_of other_than keys.now self.now }
@@ -180,30 +217,34 @@ impl Certification {
     }
 
     /// How many different kinds at parts the commits have that a write set may still be tested
-    /// against, or that are not committed; the greatest number that there is, where there are
-    /// more, which takes more than 2 ^ 51 events. It compares each of their keys with those behind
-    /// it, and takes no memory.
-    pub fn entries(&self, committed: u64) -> u64
-        ensures exact { (order : List Ordered) (certified : ℕ)
-            → Certifies order committed certified self.now → certified < 2 ^ 51
-            → result ≡ index_count (state_at order certified) committed }
-        ensures capped { (order : List Ordered) (certified : ℕ)
+    /// against, or that are not committed.
+    pub fn entries(&self) -> u64
+        ensures { (order : List Ordered) (committed certified : ℕ)
             → Certifies order committed certified self.now
-            → result ≡ min (index_count (state_at order certified) committed) (2 ^ 64 - 1) }
+            → result ≡ index_count (state_at order certified) committed }
     {
-        let above = self.state.floor().min(committed);
-        count_above(above, self.state.commits())
+        self.state.entries()
     }
 }
 
-// The changes of a passed commit wait there until it is committed.
-fn keep_changes(passed: &mut Passed, number: u64, judged: Judged, changes: OpList)
+// A passed commit is kept until it is committed.
+fn keep_commit(passed: &mut Passed, number: u64, judged: Judged, commit: PassedCommit)
     requires spare { 0 < passed.old.spare }
-    requires newest { AllBefore passed.old.ops number }
-    ensures { passed.new.ops ≡ with_changes judged passed.old.ops number changes }
+    requires newest { AllBefore passed.old.commits number }
+    ensures { passed.new.commits ≡ with_passed judged passed.old.commits number commit }
 {
     match judged {
-        Judged::Commit => passed.push(number, changes),
+        Judged::Commit => passed.push(number, commit),
         Judged::View | Judged::Report | Judged::Fragment | Judged::Rollback | Judged::Fail(_) => {}
+    }
+}
+
+// The number, where it is above.
+fn only_above(above: u64, number: Option<u64>) -> Option<u64>
+    ensures { result ≡ only_above above number }
+{
+    match number {
+        Some(number) if number > above => Some(number),
+        _ => None,
     }
 }

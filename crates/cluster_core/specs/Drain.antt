@@ -1,5 +1,6 @@
 -- the parts that a drain is made of
 use Rattle.std.specs.Prelude.{◌≡◌, ◌≤◌, ◌<◌, ◌^◌, ℕ, ◌+◌, ◌-◌, List, length, replicate}
+use Rattle.wsrep_base.specs.declared.limits.TheConstants.{MOST_EVENTS}
 use Rattle.finite_map.specs.FiniteMap.{len}
 use Rattle.order_event.specs.declared.event.Event.{Event}
 use Rattle.order_event.specs.declared.step.Act.{Act}
@@ -76,7 +77,7 @@ CommitsFew count old new fault = (order : List Event) → IsSeated order old
 
 -- there is an order of a countable length over which it stands
 abbrev pub IsSomewhereShort : Seat → Type 0
-IsSomewhereShort seat = (order : List Event) × IsSeated order seat × (length order ≤ 500_000)
+IsSomewhereShort seat = (order : List Event) × IsSeated order seat × (length order ≤ MOST_EVENTS)
 
 -- there are serials for one more write set, and for one of each live transaction
 abbrev pub HasSerials : Seat → Type 0

@@ -8,8 +8,8 @@ use Rattle.order_event.specs.declared.event.Message.TheVariants as message
 use Rattle.order_event.specs.Laws.{AreBytes}
 use Rattle.group_order.specs.Order.{last_view, last_member}
 
--- an event's numbers are of their types, the body of a write set is bytes, and the members of a view
--- can be counted in four bytes
+-- an event's numbers are of their types, the body of a write set is bytes, and the members of a
+-- view can be counted in four bytes
 abbrev pub EventFits : Event → Type 0
 EventFits (event.Write member body) = AreBytes body
 EventFits (event.View version members) =

@@ -1,6 +1,7 @@
 -- a node that joins, and what it takes of another one
 use Rattle.std.specs.Prelude.{◌≡◌, ◌≤◌, ◌<◌, ℕ, ◌+◌, ◌-◌, Bool, true, false, List, length, drop, slice_get, Option, Some, None, is_some, IsTrue}
 use Rattle.std.specs.List.{AllByRecursion}
+use Rattle.wsrep_base.specs.declared.limits.TheConstants.{MOST_EVENTS}
 use Rattle.order_event.specs.declared.event.Event.{Event}
 use Rattle.order_event.specs.declared.step.Act.{Act}
 use Rattle.order_event.specs.declared.step.Act.TheVariants as act
@@ -29,8 +30,8 @@ pub record CanJoin (order : List Event) (n : ModelNode) : Type 0 where
   pub rests : IsAtRest n
   pub member : n.at.member < new_member order
 
--- until it has the state that it misses it is at rest, and no write set behind what it took is of its
--- member
+-- until it has the state that it misses it is at rest, and no write set behind what it took is of
+-- its member
 pub record Awaits (order : List Event) (n : ModelNode) : Type 0 where
   pub rests : IsAtRest n
   pub others : AllByRecursion (λ e. own_body n.at.member e ≡ None) (drop n.at.taken order)
@@ -83,7 +84,7 @@ pub record IsOffer (order : List Event) (n : ModelNode) (told : Answer × ModelN
 pub record CanOffer (order : List Event) (donor : NodeParts) : Type 0 where
   pub stands : Stands order donor
   pub kept : OrderIsKept order
-  pub short : length order ≤ 500_000
+  pub short : length order ≤ MOST_EVENTS
 
 -- what is told of a node that waits
 pub record IsJoiner (order : List Event) (n : ModelNode) (place : Place)
@@ -116,7 +117,7 @@ TakesGift given old new = (order : List Event) (after : ModelNode) → IsSeated 
 pub record CanTransfer {W : Type 0} (order : List Event) (seats : List (declared.Seat W))
     (at : ℕ) : Type 0 where
   pub kept : AreKept order seats
-  pub short : length order ≤ 500_000
+  pub short : length order ≤ MOST_EVENTS
   pub enters : (n : ModelNode) → slice_get (nodes_of seats) at ≡ Some n → MayEnter order n
 
 -- it is the model's step

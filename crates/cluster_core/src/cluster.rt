@@ -1,4 +1,5 @@
 ghost use Rattle.std.specs.Prelude.{◌≡◌, ◌≢◌, ◌≤◌, ◌<◌, ◌+◌, ◌^◌, length, IfOk, IfErr, OnOk, IsTrue};
+ghost use Rattle.wsrep_base.specs.declared.limits.TheConstants.{MOST_EVENTS};
 ghost use Rattle.wsrep_base.specs.StateId.{nil_id};
 ghost use Rattle.order_event.specs.Fits.{step_fits};
 ghost use Rattle.group_order.specs.Order.{start_order};
@@ -89,7 +90,7 @@ impl<G: Group, W: Watcher> ClusterOf<G, W> {
         requires session { has_session step.now.act }
         requires names { IsTrue (step_fits step.now) }
         requires events { length self.old.model.order + will_order self.old.model step.now
-            ≤ 500_000 }
+            ≤ MOST_EVENTS }
         requires counts { given self.old.model < 2 ^ 63 }
         ensures ok { IfOk result
             (λ answer. (answer, self.new.model) ≡ cluster_step self.old.model step.now) }

@@ -1,4 +1,5 @@
 ghost use Rattle.std.specs.Prelude.{◌≡◌, ◌≤◌, ◌+◌, length, IfOk, IfErr, OnErr, OnOk};
+ghost use Rattle.wsrep_base.specs.declared.limits.TheConstants.{MOST_EVENTS};
 ghost use Rattle.order_event.specs.declared.step.Act.TheVariants as act;
 ghost use Rattle.node_meaning.specs.Cluster.{node_orders};
 ghost use Rattle.node_core.specs.Stands.{plain_of};
@@ -26,7 +27,7 @@ pub(crate) fn drain<G: Group, W: Watcher>(
     requires kept { IsKept (G.order group.old) (seen seat.old) }
     requires events { length (G.order group.old)
         + node_orders act.Drain (plain_of seat.old.node.parts)
-        ≤ 500_000 }
+        ≤ MOST_EVENTS }
     requires counts { CanGoOn (plain_of seat.old.node.parts) }
     ensures ok { IfOk result
         (Acted act.Drain (G.order group.old) (G.order group.new) (seen seat.old) (seen seat.new)) }
@@ -53,7 +54,7 @@ fn order_all<G: Group, W: Watcher>(
 ) -> Result<(), StepFault>
     requires kept { IsKept (G.order group.old) (seen seat.old) }
     requires events { length (G.order group.old) + length seat.old.node.parts.queue.outbox
-        ≤ 500_000 }
+        ≤ MOST_EVENTS }
     ensures ok { OnOk result
         (Sent count (G.order group.old) (G.order group.new) (seen seat.old) (seen seat.new)) }
     ensures err { IfErr result
@@ -73,7 +74,7 @@ fn take_rest<G: Group, W: Watcher>(
     count: u64,
 ) -> Result<(), StepFault>
     requires kept { IsKept (G.order group.old) (seen seat.old) }
-    requires events { length (G.order group.old) ≤ 500_000 }
+    requires events { length (G.order group.old) ≤ MOST_EVENTS }
     ensures order { G.order group.new ≡ G.order group.old }
     ensures ok { OnOk result (Takes count (G.order group.old) (seen seat.old) (seen seat.new)) }
     ensures err { IfErr result
@@ -94,7 +95,7 @@ fn take_all<G: Group, W: Watcher>(
     count: u64,
 ) -> Result<(), StepFault>
     requires kept { IsKept (G.order group.old) (seen seat.old) }
-    requires events { length (G.order group.old) ≤ 500_000 }
+    requires events { length (G.order group.old) ≤ MOST_EVENTS }
     ensures order { G.order group.new ≡ G.order group.old }
     ensures ok { OnOk result (Takes count (G.order group.old) (seen seat.old) (seen seat.new)) }
     ensures err { IfErr result

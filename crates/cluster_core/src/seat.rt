@@ -1,4 +1,4 @@
-ghost use Rattle.std.specs.Prelude.{◌≡◌, ◌≢◌, ◌≤◌, ◌<◌, ◌^◌, List, length, IfOk, OnOk, OnErr, IsTrue};
+ghost use Rattle.std.specs.Prelude.{◌≡◌, ◌≢◌, ◌≤◌, ◌<◌, ◌^◌, List, IfOk, OnOk, OnErr, IsTrue};
 
 use apply_unit::Done;
 use node_core::{
@@ -166,8 +166,7 @@ impl<W: Watcher> Seat<W> {
     /// Where the node stands, and how much it keeps for certification.
     pub(crate) fn status(&self) -> Answer
         requires seated { IsSomewhere (seen self.now) }
-        ensures { (order : List Ordered) → length order ≤ 500_000
-            → IsSeated order (seen self.now) → SeatDone order
+        ensures { (order : List Ordered) → IsSeated order (seen self.now) → SeatDone order
             (λ n. node_step order n act.Status) (seen self.now) (seen self.now) result }
     {
         status_answer(self.node.status())

@@ -1,4 +1,5 @@
 ghost use Rattle.std.specs.Prelude.{◌≡◌, ◌≤◌, ◌<◌, ◌+◌, length, slice_get, Some, IfOk, IfErr, IsTrue};
+ghost use Rattle.wsrep_base.specs.declared.limits.TheConstants.{MOST_EVENTS};
 ghost use Rattle.order_event.specs.declared.step.Act.TheVariants as act;
 ghost use Rattle.order_event.specs.Fits.{act_fits};
 ghost use Rattle.node_meaning.specs.Node.{ModelNode};
@@ -30,7 +31,7 @@ pub(crate) fn step_at<G: Group, W: Watcher>(
     requires kept { AreKept (G.order group.old) seats.old.items }
     requires act { has_session act.now × IsTrue (act_fits act.now) }
     requires events { length (G.order group.old) + orders_at
-        (slice_get (nodes_of seats.old.items) at) act.now ≤ 500_000 }
+        (slice_get (nodes_of seats.old.items) at) act.now ≤ MOST_EVENTS }
     requires counts { (n : ModelNode) → slice_get (nodes_of seats.old.items) at ≡ Some n
         → CanGoOn n }
     requires enters { (n : ModelNode) → slice_get (nodes_of seats.old.items) at ≡ Some n
@@ -61,7 +62,7 @@ pub(crate) fn step_on<G: Group, W: Watcher>(
     requires act { has_session act.now × IsTrue (act_fits act.now) }
     requires events { length (G.order group.old)
         + node_orders act.now (plain_of seat.old.node.parts)
-        ≤ 500_000 }
+        ≤ MOST_EVENTS }
     requires counts { CanGoOn (plain_of seat.old.node.parts) }
     requires enters { MayEnter (G.order group.old) (plain_of seat.old.node.parts) }
     requires alone { IsAlone act.now }
@@ -96,7 +97,7 @@ pub(crate) fn order_first<G: Group, W: Watcher>(
     requires kept { IsKept (G.order group.old) (seen seat.old) }
     requires events { length (G.order group.old)
         + node_orders act.Order (plain_of seat.old.node.parts)
-        ≤ 500_000 }
+        ≤ MOST_EVENTS }
     ensures ok { IfOk result
         (Acted act.Order (G.order group.old) (G.order group.new) (seen seat.old) (seen seat.new)) }
     ensures err { IfErr result
@@ -118,7 +119,7 @@ pub(crate) fn order_first<G: Group, W: Watcher>(
 fn leave<G: Group, W: Watcher>(seat: &mut Seat<W>, group: &mut G) -> Result<Answer, StepFault>
     requires kept { IsKept (G.order group.old) (seen seat.old) }
     requires events { length (G.order group.old)
-        + node_orders act.Leave (plain_of seat.old.node.parts) ≤ 500_000 }
+        + node_orders act.Leave (plain_of seat.old.node.parts) ≤ MOST_EVENTS }
     ensures ok { IfOk result (Acted act.Leave (G.order group.old) (G.order group.new)
         (seen seat.old) (seen seat.new)) }
     ensures err { IfErr result (Failed act.Leave (G.order group.old) (G.order group.new)
@@ -142,7 +143,7 @@ fn join<G: Group, W: Watcher>(
 ) -> Result<Answer, StepFault>
     requires kept { IsKept (G.order group.old) (seen seat.old) }
     requires events { length (G.order group.old)
-        + node_orders (act.Join fresh) (plain_of seat.old.node.parts) ≤ 500_000 }
+        + node_orders (act.Join fresh) (plain_of seat.old.node.parts) ≤ MOST_EVENTS }
     requires enters { MayEnter (G.order group.old) (plain_of seat.old.node.parts) }
     ensures ok { IfOk result (Acted (act.Join fresh) (G.order group.old) (G.order group.new)
         (seen seat.old) (seen seat.new)) }
@@ -171,7 +172,7 @@ pub(crate) fn take_next<G: Group, W: Watcher>(
     group: &mut G,
 ) -> Result<Answer, StepFault>
     requires kept { IsKept (G.order group.old) (seen seat.old) }
-    requires events { length (G.order group.old) ≤ 500_000 }
+    requires events { length (G.order group.old) ≤ MOST_EVENTS }
     ensures ok { IfOk result
         (Acted act.Take (G.order group.old) (G.order group.new) (seen seat.old) (seen seat.new)) }
     ensures err { IfErr result

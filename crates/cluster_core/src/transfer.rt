@@ -1,5 +1,6 @@
 //! A node that joins takes the state that it misses from another one.
 ghost use Rattle.std.specs.Prelude.{◌≡◌, ◌≤◌, ◌<◌, List, length, Ok, Some, None, IfOk, IfErr, OnErr, true};
+ghost use Rattle.wsrep_base.specs.declared.limits.TheConstants.{MOST_EVENTS};
 ghost use Rattle.order_event.specs.declared.event.Event.{Event as Ordered};
 ghost use Rattle.node_meaning.specs.Node.{ModelNode, is_connected};
 ghost use Rattle.node_meaning.specs.Joining.{by_snapshot, transfer_from};
@@ -56,7 +57,7 @@ pub(crate) fn transfer<W: Watcher>(
 // it misses, where the donor's ring has them, or else a snapshot.
 fn offer_of<W: Watcher>(donor: &NodeOf<W>, joiner: Place, committed: u64) -> Result<Offer, NoMemory>
     requires able { (order : List Ordered) × CanOffer order donor.now.parts }
-    requires committed { committed ≤ 500_000 }
+    requires committed { committed ≤ MOST_EVENTS }
     ensures ok { IfOk result (λ offer. (order : List Ordered) (n : ModelNode)
         → CanOffer order donor.now.parts → IsJoiner order n joiner committed
         → IsOffer order n (transfer_from order n (Some (plain_of donor.now.parts))) offer) }

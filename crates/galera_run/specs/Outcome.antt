@@ -80,8 +80,8 @@ IsToSend (Err stop.Read) = ⊥
 IsToSend (Err stop.Write) = ⊥
 IsToSend (Err stop.NoMemory) = Unit {0}
 
--- it ends as it did, or, where that was due and failed, by the sink; the sink's count of faults tells
--- which
+-- it ends as it did, or, where that was due and failed, by the sink; the sink's count of faults
+-- tells which
 abbrev pub SendsOut : Result Finished RunFault → Result Finished RunFault → ℕ → ℕ → Type 0
 SendsOut ran result before now =
     ((result ≡ ran) × (now ≡ before))

@@ -110,7 +110,8 @@ fn run_said<W: Watcher>(
 ) -> Result<Option<Answer>, LineFault>
     requires { IsRoomFor place.old line.now (Some opened) }
     ensures ok { IfOk result (λ answer.
-        stepped_at place.old line.now opened (line_of opened.nodes line.now) ≡ Ok (answer, place.new)) }
+        stepped_at place.old line.now opened (line_of opened.nodes line.now)
+        ≡ Ok (answer, place.new)) }
     ensures stands { OnOk result (Stands place.new) }
     ensures err { IfErr result
         (FailsAs (stepped_at place.old line.now opened (line_of opened.nodes line.now))) }

@@ -1,4 +1,5 @@
 ghost use Rattle.std.specs.Prelude.{◌≡◌, ℕ, ◌<◌, List, [], ◌∷◌, ◌++◌, length, IsSome, IfOk, IfErr, OnOk, OnErr};
+ghost use Rattle.wsrep_base.specs.declared.limits.TheConstants.{MOST_EVENTS};
 ghost use Rattle.order_event.specs.declared.event.Event.{Event};
 ghost use Rattle.group_order.specs.Order.{event_at, event_of, view_without, view_with, new_member};
 ghost use Rattle.group_order.specs.Causes.{HasCause, AtNoMemory};
@@ -28,7 +29,7 @@ pub trait Group: Drop {
     /// Orders the message as that member's, behind all events, and gives its number. After a fault
     /// the order is the same.
     fn order(&mut self, member: u32, message: &Message) -> Result<u64, GroupFault>
-        requires { length (order self.old) < 500_000 }
+        requires { length (order self.old) < MOST_EVENTS }
         ensures ok { OnOk result
             (order self.new ≡ order self.old ++ event_of member message.now ∷ []) }
         ensures number { IfOk result (λ number. number ≡ length (order self.new)) }
@@ -38,7 +39,7 @@ pub trait Group: Drop {
     /// Appends the last view without the member, and gives its number. After a fault the order is
     /// the same.
     fn leave(&mut self, member: u32) -> Result<u64, GroupFault>
-        requires { length (order self.old) < 500_000 }
+        requires { length (order self.old) < MOST_EVENTS }
         ensures ok { OnOk result
             (order self.new ≡ order self.old ++ view_without (order self.old) member ∷ []) }
         ensures number { IfOk result (λ number. number ≡ length (order self.new)) }
@@ -48,7 +49,7 @@ pub trait Group: Drop {
     /// Appends the last view with a new member behind its members, and gives the view's number and
     /// the member's, which no view had before. After a fault the order is the same.
     fn join(&mut self) -> Result<(u64, u32), GroupFault>
-        requires { length (order self.old) < 500_000 }
+        requires { length (order self.old) < MOST_EVENTS }
         ensures ok { OnOk result
             (order self.new
             ≡ order self.old ++ view_with (order self.old) (new_member (order self.old)) ∷ []) }

@@ -12,7 +12,7 @@ use Rattle.node_meaning.specs.Node.{ApplyUnit, rows_at}
 use Rattle.node_meaning.specs.Units.{ops_at, rows_before, unit_task, images_of, named_rows}
 use Rattle.node_meaning.proofs.GrowFacts.{facts_grow, ops_at-append}
 use Rattle.node_parts.specs.Units.{Work}
-use Rattle.gcache_ring.specs.Held.{Ring, held}
+use Rattle.gcache_ring.specs.Held.{held}
 use Rattle.node_core.specs.declared.node.NodeParts.{NodeParts}
 use Rattle.node_core.specs.Tabled.{Tabled}
 use Rattle.node_core.specs.Stands.{Stands, AreWorked, IsWorked, HasTask}

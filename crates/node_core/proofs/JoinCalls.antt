@@ -1,5 +1,5 @@
 -- A node that joins, and one that takes the state that it misses, stands as the model's does.
-use Rattle.std.proofs.Common.{◌≡◌, ℕ, zero, suc, ◌+◌, ◌≤◌, ◌<◌, Bool, true, false, cond, List, [], ◌∷◌, ◌++◌, length, take, drop, Option, None, Some, refl, ap, sym, subst, ◌∙◌, arith}
+use Rattle.std.proofs.Common.{◌≡◌, ℕ, zero, suc, ◌+◌, ◌≤◌, Bool, List, [], ◌∷◌, ◌++◌, length, take, drop, None, refl, ap, sym, subst, ◌∙◌, arith}
 use Rattle.std.specs.Prelude.{if◌then◌else◌}
 use Rattle.std.specs.List.{AllByRecursion, filter_map, cons_option}
 use Rattle.std.proofs.Common.{length-take-le}
@@ -11,12 +11,12 @@ use Rattle.order_event.specs.declared.event.Event.{Event}
 use Rattle.node_meaning.specs.declared.progress.Phase.TheVariants as phase
 use Rattle.node_meaning.specs.Node.{ModelNode}
 use Rattle.node_meaning.specs.Facts.{Facts, own_body}
-use Rattle.node_meaning.specs.Joining.{IsAtRest, joined_node, received_events, ring_of}
+use Rattle.node_meaning.specs.Joining.{IsAtRest, joined_node, received_events}
 use Rattle.node_meaning.proofs.Joining.{joined_facts, received_facts, NoneOwn, none_behind}
 use Rattle.node_core.specs.declared.node.NodeParts.{NodeParts}
 use Rattle.node_core.specs.Taking.{all_kept}
 use Rattle.node_core.specs.Joining.{EventsFit, AreNext, TookEvents}
-use Rattle.node_core.specs.Stands.{Stands, Serves, Does, DoneOver, plain_of, quietly}
+use Rattle.node_core.specs.Stands.{Stands, Does, DoneOver, plain_of, quietly}
 
 -- the node once it joined, with this id
 abbrev pub after_join : NodeParts → ℕ → ℕ → List ℕ → NodeParts

@@ -1,35 +1,37 @@
 -- A node that takes a snapshot stands for each order of whose state this is the snapshot.
-use Rattle.std.proofs.Common.{◌≡◌, ℕ, ◌≤◌, ◌<◌, Bool, true, false, List, [], length, take, drop, Option, None, Some, refl, ap, sym, subst, ◌∙◌, arith, true≢false}
-use Rattle.std.specs.Prelude.{Ok, Result, not, ◌≢◌}
-use Rattle.std.specs.Ordering.{nat_cmp}
-use Rattle.std.specs.Str.{bytes_eq}
+use Rattle.std.proofs.Common.{◌≡◌, ℕ, ◌≤◌, List, [], ◌∷◌, length, map, take, drop, Option, None, Some, refl, ap, sym, subst, ◌∙◌, arith, true≢false}
+use Rattle.std.specs.Prelude.{Ok, Result, not, unwrap_or, ◌≢◌}
 use Rattle.std.proofs.lemmas.Slice.Eq.{bytes_eq-Decides}
-use Rattle.finite_map.specs.FiniteMap.{FiniteMap, empty, get, get-empty}
+use Rattle.finite_map.specs.FiniteMap.{empty, get, get-empty}
 use Rattle.wsrep_base.specs.StateId.{nil_id}
-use Rattle.row_model.specs.Rows.{Rows, row_cmp}
+use Rattle.wsrep_base.specs.Trx.{least}
+use Rattle.row_model.specs.Rows.{row_cmp}
 use Rattle.order_event.specs.declared.event.Event.{Event}
-use Rattle.cert_meaning.specs.State.{FoldState}
-use Rattle.cert_meaning.specs.Fold.{state_at}
-use Rattle.cert_meaning.specs.Parts.{trim}
+use Rattle.cert_meaning.specs.declared.items.CommitItem.{CommitItem}
+use Rattle.cert_meaning.specs.declared.members.Standing.{Standing}
+use Rattle.cert_meaning.specs.declared.parts.MemberItem.{MemberItem}
+use Rattle.cert_meaning.specs.declared.parts.StateParts.{StateParts}
+use Rattle.cert_meaning.specs.State.{FoldState, RiseWithin}
+use Rattle.cert_meaning.specs.Fold.{state_at, floor_over}
+use Rattle.cert_meaning.specs.Parts.{member_item, member_items, members_of, parts_of, trim}
 use Rattle.cert_meaning.proofs.FoldLaws.{number-at}
 use Rattle.certification.specs.Certifies.{ModelCertification, Certifies}
-use Rattle.client_trx.specs.Live.{Live}
-use Rattle.gcache_ring.specs.Held.{Ring, held}
+use Rattle.gcache_ring.specs.Held.{held}
 use Rattle.state_snapshot.specs.declared.fault.SnapFault.{SnapFault}
-use Rattle.state_snapshot.specs.Rules.{IsGiven}
+use Rattle.state_snapshot.specs.Rules.{IsGiven, Obeys}
+use Rattle.state_snapshot.specs.Laws.{IsSnapshot}
 use Rattle.state_snapshot.specs.Reading.{installed}
-use Rattle.state_snapshot.proofs.StateLaws.{snapshot_again}
+use Rattle.state_snapshot.proofs.StateLaws.{snapshot_again, state_back}
 use Rattle.state_snapshot.proofs.TakeLaws as laws
 use Rattle.state_snapshot.proofs.RangeLaws.{in_range}
 use Rattle.undo_rows.specs.RowTable.{RowTable, Changes}
-use Rattle.node_meaning.specs.declared.progress.Phase.TheVariants as phase
 use Rattle.node_meaning.specs.Node.{ModelNode, ApplyUnit, rows_at}
 use Rattle.node_meaning.specs.Facts.{Facts}
 use Rattle.node_meaning.specs.Joining.{IsAtRest, received_snapshot}
 use Rattle.node_meaning.proofs.Joining.{installed_facts, none_behind}
 use Rattle.node_core.specs.declared.node.NodeParts.{NodeParts}
 use Rattle.node_core.specs.Tabled.{made_by, shown_of}
-use Rattle.node_core.specs.Joining.{IsStateAt, IsCertifiedBy, TookSnapshot, has_installed}
+use Rattle.node_core.specs.Joining.{IsStateAt, TookSnapshot, has_installed}
 use Rattle.node_core.specs.Stands.{Stands, DoneOver, plain_of, quietly}
 
 from_given : (id : List ℕ) → IsGiven id → id ≢ nil_id
@@ -50,12 +52,47 @@ pair_of s t id other is =
     let same = same_Ok (s, id) (t, other) is in
     (ap (λ (x : FoldState × List ℕ). x.0) same, ap (λ (x : FoldState × List ℕ). x.1) same)
 
+-- ---- what is installed
+from_start : (above most : ℕ) (commits : List CommitItem) → RiseWithin above most commits → RiseWithin 0 most commits
+from_start above most [] rise = tt
+from_start above most (commit ∷ commits) rise = (omega (arith, rise.0), rise.1, rise.2)
+
+reports_same : (entries : List (ℕ × Standing))
+    → map (λ (standing : Standing). standing.report) (map (λ entry. entry.1) entries) ≡ map (λ (item : MemberItem). item.report) (map member_item entries)
+reports_same [] = refl
+reports_same (entry ∷ entries) = ap (λ others. entry.1.report ∷ others) (reports_same entries)
+
+module _ (bytes : List ℕ) (state : FoldState) (id : List ℕ) (is : IsSnapshot bytes state id) where
+  obeys : Obeys (parts_of state)
+  obeys = subst (λ (s : FoldState). Obeys (parts_of s)) is.trimmed is.rules
+
+  module _ (parts : StateParts) (are : parts ≡ parts_of state) where
+    -- the numbers of its commits rise
+    pub parts_rise : RiseWithin 0 parts.number parts.commits
+    parts_rise =
+        subst (λ (p : StateParts). RiseWithin 0 p.number p.commits) (sym are)
+        (from_start state.floor state.number state.commits obeys.commits.rise)
+
+    -- its floor is the least report
+    pub parts_settled : floor_over (members_of parts.members) parts.floor ≡ parts.floor
+    parts_settled =
+        let back : members_of (member_items state.members) ≡ state.members = ap (λ (s : FoldState). s.members) (state_back state) in
+        subst (λ (p : StateParts). floor_over (members_of p.members) p.floor ≡ p.floor) (sym are)
+        (subst (λ members. floor_over members state.floor ≡ state.floor) (sym back)
+        (ap (λ reports. unwrap_or (least reports) state.floor) (reports_same state.members.entries) ∙ obeys.members.least))
+
+-- it stands for the state, and for each order of which this is the trimmed one at a number
+abbrev pub IsCertifiedBy : FoldState → ModelCertification → Type 0
+IsCertifiedBy state certification =
+    (order : List Event) (number : ℕ) → number ≤ length order → state ≡ trim (state_at order number)
+    → Certifies order number number certification
+
 module _ (old : NodeParts) (state : FoldState) (named : List ℕ) (rows : RowTable)
     (certification : ModelCertification) (rests : IsAtRest (plain_of old))
     (committed : rows.committed ≡ state.rows) (changes : rows.changes ≡ empty)
     (spare : old.units.room ≤ rows.spare) (certifies : IsCertifiedBy state certification) where
   abbrev new : NodeParts
-  new = has_installed old state named rows certification
+  new = has_installed old state.number named rows certification
 
   module _ (order : List Event) (number : ℕ) (id bytes : List ℕ) (is_state : IsStateAt order number id bytes)
       (st : Stands order old) (is : installed bytes ≡ Ok (state, named)) where

@@ -9,7 +9,6 @@ use Rattle.node_meaning.specs.Node.{ModelNode, is_connected}
 use Rattle.node_meaning.specs.Joining.{ring_of}
 use Rattle.gcache_ring.specs.Held.{Ring, held, with_event}
 use Rattle.gcache_ring.proofs.HeldLemmas.{held-again}
-use Rattle.wsrep_base.specs.StateId.{nil_id}
 use Rattle.node_core.specs.Stands.{Unchanged, Serves, KeepsRing, plain_of}
 
 -- ---- the inbox

@@ -9,8 +9,8 @@ use Rattle.order_event.specs.declared.event.Event.{Event}
 use Rattle.order_event.specs.declared.step.Answer.{Answer}
 use Rattle.order_event.specs.declared.step.Answer.TheVariants as answer
 use Rattle.cert_meaning.specs.declared.items.CommitItem.{CommitItem}
-use Rattle.certification.specs.Certifies.{commit_with, touching_between, changes_with}
-use Rattle.certification.proofs.Ahead.{commit-is, touching-is, changes-is}
+use Rattle.certification.specs.Certifies.{Certifies, commit_with, changes_with, in_the_way}
+use Rattle.certification.proofs.Ahead.{commit-is, changes-is}
 use Rattle.apply_unit.specs.Results.{Image}
 use Rattle.apply_unit.specs.Task.{ModelTask, task}
 use Rattle.node_meaning.specs.Node.{ModelNode, ApplyUnit, ahead, passed_at, rows_at}
@@ -79,6 +79,13 @@ pub starts_done : (order : List Event) (node : NodeParts) (number : ℕ) (keys :
     → DoneOver order (unit_started number keys) node after a → DoneOver order (λ n. start_step order n number) node after a
 starts_done order node number keys after a may done = record { same = done.same ∙ sym may.is; stands = done.stands }
 
+-- what certification tells of the unit before the passed commit with a number
+abbrev SeesWay : NodeParts → ℕ → Option ℕ → Type 0
+SeesWay node number way =
+    (order : List Event) (committed certified : ℕ) (commit : CommitItem) → Certifies order committed certified node.certification
+    → committed < number → passed_at order committed certified number ≡ Some commit
+    → way ≡ in_the_way order committed certified number commit.keys
+
 module _ (order : List Event) (node : NodeParts) (number : ℕ) (stands : Stands order node) where
   abbrev n : ModelNode
   n = plain_of node
@@ -133,10 +140,10 @@ module _ (order : List Event) (node : NodeParts) (number : ℕ) (stands : Stands
           (start_after n number commit.keys (greatest (touching_before (ahead order node.at.committed node.at.certified) number commit.keys)))) here)) refl tt
 
       module _ (remote : is_local node.live number ≡ false) (way : Option ℕ)
-          (seen : way ≡ touching_between node.at.committed number commit.keys node.certification) where
+          (seen : SeesWay node number way) where
         way_is : greatest (touching_before (ahead order node.at.committed node.at.certified) number commit.keys) ≡ way
         way_is =
-            sym (seen ∙ touching-is order node.at.committed node.at.certified node.certification stands.certification number commit.keys)
+            sym (seen order node.at.committed node.at.certified commit stands.certification above (read_is ∙ found))
 
         after_is : start_step order n number ≡ start_after n number commit.keys way
         after_is =

@@ -1,5 +1,5 @@
 -- The parts of a node's status are those of the fold at what it has certified.
-use Rattle.std.proofs.Common.{◌≡◌, ◌≤◌, ◌<◌, ◌^◌, ℕ, List, length, ap, ◌∙◌, arith}
+use Rattle.std.proofs.Common.{◌≡◌, ℕ, List, ap, ◌∙◌}
 use Rattle.finite_map.specs.FiniteMap.{len}
 use Rattle.order_event.specs.declared.event.Event.{Event}
 use Rattle.order_event.specs.declared.step.Answer.TheVariants as answer
@@ -20,7 +20,3 @@ status_is order n floor index count least kept opened =
     ∙ ap (λ k. answer.Status n.at.taken n.at.certified n.at.committed s.floor k count) kept
     ∙ ap (answer.Status n.at.taken n.at.certified n.at.committed s.floor (index_count s n.at.committed))
     opened
-
-pub few_certified : (certified : ℕ) (order : List Event) → certified ≤ length order
-    → length order ≤ 500_000 → certified < 2 ^ 51
-few_certified certified order within few = omega (arith, within, few)

@@ -7,8 +7,7 @@ use Rattle.order_event.specs.declared.event.Event.{Event}
 use Rattle.order_event.specs.Spelling.{HasFewMembers}
 use Rattle.cert_meaning.specs.State.{FoldState}
 use Rattle.cert_meaning.specs.Fold.{state_at}
-use Rattle.cert_meaning.specs.Parts.{trim}
-use Rattle.certification.specs.Certifies.{ModelCertification, Certifies}
+use Rattle.certification.specs.Certifies.{ModelCertification}
 use Rattle.gcache_ring.specs.Held.{empty_ring}
 use Rattle.undo_rows.specs.RowTable.{RowTable}
 use Rattle.node_meaning.specs.declared.progress.Phase.TheVariants as phase
@@ -25,7 +24,7 @@ use Rattle.node_core.specs.declared.gift.Gift.TheVariants.{Ist, Sst}
 use Rattle.node_core.specs.declared.gift.ReceiveFault.{ReceiveFault}
 use Rattle.node_core.specs.declared.gift.ReceiveFault.TheVariants.{Snap, NoMemory}
 use Rattle.node_core.specs.declared.node.NodeParts.{NodeParts}
-use Rattle.node_core.specs.Stands.{Stands, DoneOver, plain_of, quietly}
+use Rattle.node_core.specs.Stands.{Stands, DoneOver, quietly}
 
 -- ---- what is handed over
 -- events for the node: few, of which each view's members can be counted, and none is a write set of
@@ -80,24 +79,18 @@ IsFaultOf gift NoMemory = Unit {0}
 IsFaultOf (Ist events) (Snap fault) = ⊥
 IsFaultOf (Sst bytes) (Snap fault) = (installed bytes ≡ Err fault) × (fault ≢ snap.NoMemory)
 
--- the state of a node that installed one, whose ring is empty from there on
-abbrev pub has_installed : NodeParts → FoldState → List ℕ → RowTable → ModelCertification → NodeParts
-has_installed node state id rows certification = record node {
+-- a node that installed a state with a number, whose ring is empty from there on
+abbrev pub has_installed : NodeParts → ℕ → List ℕ → RowTable → ModelCertification → NodeParts
+has_installed node number id rows certification = record node {
   at = record node.at {
     phase = phase.Connected;
-    taken = state.number;
-    certified = state.number;
-    committed = state.number;
+    taken = number;
+    certified = number;
+    committed = number;
   };
   id = id;
   certification = certification;
   rows = rows;
-  ring = empty_ring node.ring.size state.number;
-  since = state.number;
+  ring = empty_ring node.ring.size number;
+  since = number;
 }
-
--- it stands for the state, and for each order of which this is the trimmed one at a number
-abbrev pub IsCertifiedBy : FoldState → ModelCertification → Type 0
-IsCertifiedBy state certification =
-    (order : List Event) (number : ℕ) → number ≤ length order → state ≡ trim (state_at order number)
-    → Certifies order number number certification

@@ -6,16 +6,21 @@ ghost use Rattle.node_core.specs.Giving.{is_in};
 use crate::gift::{Gift, GiveFault};
 use crate::node::NodeParts;
 use crate::ranges::id_in_range;
+use cert_meaning::FoldState;
 use gcache_ring::CopyFault;
 use order_event::EventList;
+use state_snapshot::take;
 use std::alloc::AllocError;
+use undo_rows::Rows;
 use wsrep_base::NoMemory;
 
 impl NodeParts {
     ghost use Rattle.wsrep_base.specs.declared.limits.TheConstants.{MOST_EVENTS};
+    ghost use Rattle.cert_meaning.specs.Fold.{state_at};
+    ghost use Rattle.cert_meaning.specs.Parts.{trim};
     ghost use Rattle.node_meaning.specs.Node.{is_connected};
     ghost use Rattle.node_core.specs.Giving.{CanGive, Gives};
-    ghost use Rattle.node_core.specs.Stands.{Stands, plain_of};
+    ghost use Rattle.node_core.specs.Stands.{IsStanding, Stands, plain_of};
 
     /// What a node that joins misses from this number on: the events, exactly where `same` holds
     /// and the ring has that number; else a snapshot of what is committed, if that is all that is
@@ -35,8 +40,21 @@ impl NodeParts {
             return Err(GiveFault::Busy(at.certified, at.committed));
         }
         id_in_range(&self.id);
-        let bytes = state_snapshot::take(self.certification.state(), self.id)?;
-        Ok(Gift::Sst(bytes))
+        let state = self.committed_state()?;
+        Ok(Gift::Sst(take(&state, self.id)?))
+    }
+
+    // The state at what is committed, if that is all that is certified. Commits may be missing
+    // against which no later write set is tested.
+    fn committed_state(&self) -> Result<FoldState, NoMemory>
+        requires stands { IsStanding self.now }
+        requires all { self.now.at.certified ≡ self.now.at.committed }
+        ensures { IfOk result (λ state. (order : List Ordered) → Stands order self.now
+            → trim state ≡ trim (state_at order self.now.at.committed)) }
+    {
+        let mut parts = self.certification.parts()?;
+        parts.rows = self.rows.walk()?;
+        FoldState::of(self.alloc, parts)
     }
 
     // The events of the ring from a number that it has.

@@ -11,6 +11,7 @@ mod gift;
 mod give;
 mod join;
 mod keep;
+pub mod laws;
 mod leave;
 mod node;
 mod ranges;

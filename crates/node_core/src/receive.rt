@@ -1,13 +1,12 @@
 ghost use Rattle.std.specs.Prelude.{◌≡◌, ◌≤◌, length, IfOk, IfErr, OnErr, true};
 ghost use Rattle.finite_map.specs.FiniteMap.{empty};
 ghost use Rattle.cert_meaning.specs.Parts.{rows_of};
-ghost use Rattle.node_core.specs.Joining.{IsFaultOf, IsCertifiedBy, has_installed};
+ghost use Rattle.node_core.specs.Joining.{IsFaultOf, has_installed};
 ghost use Rattle.node_core.specs.declared.gift.Gift.TheVariants as given;
 
 use crate::gift::{Gift, ReceiveFault};
 use crate::node::NodeParts;
 use bytes::Bytes;
-use cert_meaning::FoldState;
 use certification::Certification;
 use node_meaning::Phase;
 use order_event::EventList;
@@ -66,18 +65,19 @@ impl NodeParts {
             Err(SnapFault::NoMemory) => return Err(ReceiveFault::NoMemory),
             Err(fault) => return Err(ReceiveFault::Snap(fault)),
         };
-        let rows = rows_of(self.alloc, &state, self.units.room())?;
-        Ok(self.install(state, id, rows))
+        let parts = state.parts()?;
+        let number = parts.number;
+        let rows = rows_of(self.alloc, parts.rows.as_slice(), self.units.room())?;
+        let certification = Certification::installed(self.alloc, parts)?;
+        self.install(number, id, rows, certification);
+        Ok(number)
     }
 
-    // The node is connected, and its state is this one, with these rows; its ring is empty.
-    fn install(&mut self, state: FoldState, id: StateId, rows: Overlay) -> u64
-        ensures last { result ≡ state.number }
-        ensures after { self.new ≡ has_installed self.old state id rows self.new.certification }
-        ensures certification { IsCertifiedBy state self.new.certification }
+    // The node is connected, and has committed up to this number; its ring is empty.
+    fn install(&mut self, number: u64, id: StateId, rows: Overlay, certification: Certification)
+        ensures { self.new ≡ has_installed self.old number id rows certification }
     {
-        let number = state.number();
-        self.certification = Certification::installed(self.alloc, state);
+        self.certification = certification;
         self.rows = rows;
         self.ring.restart(number);
         self.since = number;
@@ -86,18 +86,15 @@ impl NodeParts {
         self.at.taken = number;
         self.at.certified = number;
         self.at.committed = number;
-        number
     }
 }
 
-// The rows of a state as committed ones, with room for so many that are put.
-fn rows_of(alloc: Global, state: &FoldState, room: usize) -> Result<Overlay, NoMemory>
-    ensures committed { IfOk result (λ rows. rows.committed ≡ state.now.rows) }
+// Rows as committed ones, with room for so many that are put.
+fn rows_of(alloc: Global, items: &[RowItem], room: usize) -> Result<Overlay, NoMemory>
+    ensures committed { IfOk result (λ rows. rows.committed ≡ rows_of items.now) }
     ensures changes { IfOk result (λ rows. rows.changes ≡ empty) }
     ensures spare { IfOk result (λ rows. room ≤ rows.spare) }
 {
-    let parts = state.parts()?;
-    let items = parts.rows.as_slice();
     let mut rows = Overlay::new(alloc)?;
     rows.reserve(items.len())?;
     put_rows(&mut rows, items);

@@ -78,11 +78,7 @@ impl NodeParts {
         if is_local(&self.live, number) {
             return Err(Started::Local);
         }
-        let committed = self.at.committed;
-        if let Some(earlier) = self
-            .certification
-            .touching_between(committed, number, &commit.keys)
-        {
+        if let Some(earlier) = self.certification.in_the_way(number) {
             return Err(Started::NotYet(earlier));
         }
         Ok(&commit.keys)

@@ -1,4 +1,4 @@
-ghost use Rattle.std.specs.Prelude.{◌≡◌, ◌≤◌, List, length};
+ghost use Rattle.std.specs.Prelude.{◌≡◌, List};
 ghost use Rattle.order_event.specs.declared.event.Event.{Event as Ordered};
 
 use crate::answers::Status;
@@ -12,8 +12,7 @@ impl NodeParts {
     /// Where the node stands, and how much it keeps for certification. It takes no memory.
     pub(crate) fn status(&self) -> Status
         requires stands { IsStanding self.now }
-        ensures { (order : List Ordered) → length order ≤ 500_000
-            → Stands order self.now
+        ensures { (order : List Ordered) → Stands order self.now
             → status_answer result ≡ (status_step order (plain_of self.now)).0 }
     {
         Status {
@@ -21,7 +20,7 @@ impl NodeParts {
             certified: self.at.certified,
             committed: self.at.committed,
             floor: self.certification.floor(),
-            index: self.certification.entries(self.at.committed),
+            index: self.certification.entries(),
             open_trx: self.certification.open_trx(),
         }
     }

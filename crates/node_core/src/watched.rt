@@ -221,8 +221,7 @@ impl<W: Watcher> NodeOf<W> {
     /// Where the node stands, and how much it keeps for certification. It takes no memory.
     pub fn status(&self) -> Status
         requires stands { IsStanding self.now.parts }
-        ensures { (order : List Ordered) → length order ≤ 500_000
-            → Stands order self.now.parts
+        ensures { (order : List Ordered) → Stands order self.now.parts
             → status_answer result ≡ (status_step order (plain_of self.now.parts)).0 }
     {
         self.parts.status()

@@ -1,13 +1,13 @@
--- the changes of commits that passed and are not committed, and room for more
+-- commits that passed and are not committed, and room for more
 use Rattle.std.specs.Prelude.{◌≡◌, ℕ, ◌<◌, List, length, Option, None, Some}
 use Rattle.std.specs.List.{slice_index_or}
 use Rattle.std.specs.Ordering.{nat_cmp}
 use Rattle.finite_map.specs.FiniteMap.{FiniteMap, get}
-use Rattle.row_model.specs.declared.ops.Op.{Op}
+pub use Rattle.node_parts.specs.declared.passed.PassedCommit.{PassedCommit}
 
-pub record PassedOps : Type 0 where
+pub record PassedCommits : Type 0 where
   -- by the number of the commit
-  pub ops : FiniteMap nat_cmp (List Op)
+  pub commits : FiniteMap nat_cmp PassedCommit
   -- so many commits can be put there with no more memory
   pub spare : ℕ
 

@@ -9,7 +9,7 @@ mod transactions;
 mod units;
 
 pub use inbox::Inbox;
-pub use passed::Passed;
+pub use passed::{Passed, PassedCommit};
 pub use queue::{MessageList, Queue};
 pub use slots::Slots;
 pub use transactions::{committer_of, is_local, session_of};

@@ -8,10 +8,11 @@ use Rattle.wsrep_base.specs.Trx.{trx_cmp}
 use Rattle.wsrep_base.specs.declared.ids.TrxId.{TrxId}
 use Rattle.cert_meaning.specs.declared.items.Fragment.{Fragment}
 use Rattle.cert_meaning.specs.Fold.{is_of}
+use Rattle.cert_meaning.specs.OpenSearch.{HasNoneOf}
 use Rattle.finite_map.proofs.Edits.{tied}
 use Rattle.cert_meaning.proofs.TrxLemmas.{transactions, trx_exact, trx_total}
 use Rattle.sr_fragments.specs.Following.{all_dropped, DropsTheGone}
-use Rattle.sr_fragments.specs.OpenSet.{Open, dropped, HasNoneOf}
+use Rattle.sr_fragments.specs.OpenSet.{Open, dropped}
 use Rattle.sr_fragments.proofs.MarkLemmas.{number_itself, number_same}
 
 get-kept : (open_trx : Open) (p : TrxId → Bool) (t : TrxId)
@@ -56,36 +57,50 @@ drops open_trx listed gone whole apart =
     by t (Some fs) is false true at_l at_g = refl
     by t (Some fs) is false false at_l at_g = let one = whole t fs is in cc
 
+-- where a transaction that is not to be kept is closed, as much is kept
+pub kept-removed : (open_trx : Open) (p : TrxId → Bool) (trx : TrxId) → p trx ≡ false
+    → retain_keys (remove open_trx trx) p ≡ retain_keys open_trx p
+kept-removed open_trx p trx goes =
+    same_map trx_total trx_exact (retain_keys (remove open_trx trx) p) (retain_keys open_trx p)
+    (λ t.
+    get-kept (remove open_trx trx) p t
+    ∙ ap (λ o. cond (p t) o None) (get-remove trx_total open_trx trx t)
+    ∙ by t (eq_by_cmp trx_cmp t trx) refl
+    ∙ sym (get-kept open_trx p t))
+  where
+    by : (t : TrxId) (b : Bool) → eq_by_cmp trx_cmp t trx ≡ b
+        → cond (p t) (cond b None (get open_trx t)) None ≡ cond (p t) (get open_trx t) None
+    by t false apart = refl
+    by t true tie =
+        let here : p t ≡ false = ap p (tied transactions t trx tie) ∙ goes in
+        ap (λ b. cond b (cond true None (get open_trx t)) None) here
+        ∙ sym (ap (λ b. cond b (get open_trx t) None) here)
+
+-- and where there is none, all are kept
+pub kept-none : (open_trx : Open) (p : TrxId → Bool)
+    → ((t : TrxId) → p t ≡ false → get open_trx t ≡ None) → retain_keys open_trx p ≡ open_trx
+kept-none open_trx p none =
+    same_map trx_total trx_exact (retain_keys open_trx p) open_trx (λ t.
+    get-kept open_trx p t ∙ by t (p t) refl)
+  where
+    by : (t : TrxId) (b : Bool) → p t ≡ b → cond b (get open_trx t) None ≡ get open_trx t
+    by t true stays = refl
+    by t false goes = sym (none t goes)
+
 -- where a transaction of the member is closed, as much is left to be dropped
 pub dropped-removed : (open_trx : Open) (trx : TrxId) (member : ℕ) → trx.member ≡ member
     → dropped (remove open_trx trx) member ≡ dropped open_trx member
 dropped-removed open_trx trx member its =
-    same_map trx_total trx_exact (dropped (remove open_trx trx) member) (dropped open_trx member)
-    (λ t.
-    get-kept (remove open_trx trx) (λ u. not (u.member == member)) t
-    ∙ ap (λ o. cond (not (t.member == member)) o None) (get-remove trx_total open_trx trx t)
-    ∙ by t (eq_by_cmp trx_cmp t trx) refl
-    ∙ sym (get-kept open_trx (λ u. not (u.member == member)) t))
-  where
-    by : (t : TrxId) (b : Bool) → eq_by_cmp trx_cmp t trx ≡ b
-        → cond (not (t.member == member)) (cond b None (get open_trx t)) None
-        ≡ cond (not (t.member == member)) (get open_trx t) None
-    by t false apart = refl
-    by t true tie =
-        let here : (t.member == member) ≡ true =
-        ap (λ u. u.member == member) (tied transactions t trx tie) ∙ ap (λ n. n == member) its
-        ∙ number_itself member in
-        ap (λ b. cond (not b) (cond true None (get open_trx t)) None) here
-        ∙ sym (ap (λ b. cond (not b) (get open_trx t) None) here)
+    kept-removed open_trx (λ u. not (u.member == member)) trx
+    (ap not (ap (λ n. n == member) its ∙ number_itself member))
 
 -- and where it has none, nothing is
 pub dropped-none : (open_trx : Open) (member : ℕ) → HasNoneOf open_trx member
     → dropped open_trx member ≡ open_trx
 dropped-none open_trx member none =
-    same_map trx_total trx_exact (dropped open_trx member) open_trx (λ t.
-    get-kept open_trx (λ u. not (u.member == member)) t ∙ by t (t.member == member) refl)
+    kept-none open_trx (λ u. not (u.member == member))
+    (λ t goes. none t (number_same t.member member (is_so (t.member == member) goes)))
   where
-    by : (t : TrxId) (b : Bool) → (t.member == member) ≡ b
-        → cond (not b) (get open_trx t) None ≡ get open_trx t
-    by t true here = sym (none t (number_same t.member member here))
-    by t false apart = refl
+    is_so : (b : Bool) → not b ≡ false → b ≡ true
+    is_so true goes = refl
+    is_so false goes = cc

@@ -1,14 +1,15 @@
 -- The latest fragment at a spot among all transactions but one is the greatest of what the index
 -- has of each, and the index follows the open transactions.
-use Rattle.std.proofs.Common.{◌≡◌, ◌≤◌, ℕ, Bool, true, false, cond, ◌||◌, ◌&&◌, List, [], ◌∷◌, ◌++◌, Option, Some, None, refl, sym, ap, ◌∙◌, arith}
+use Rattle.std.proofs.Common.{◌≡◌, ◌≤◌, ◌<◌, ◌+◌, ℕ, Bool, true, false, cond, ◌||◌, ◌&&◌, List, [], ◌∷◌, ◌++◌, length, take, get_or, Option, Some, None, refl, sym, ap, ◌∙◌, arith}
 use Rattle.std.specs.Prelude.{T, max, nat_lt, unwrap_or, flat_map}
 use Rattle.std.specs.Cmp.{eq_by_cmp_equiv}
 use Rattle.std.specs.List.{list_any}
 use Rattle.std.specs.Ordering.{eq_by_cmp, is_eq, is_lt}
 use Rattle.std.specs.declared.cmp.Ordering.{Ordering}
 use Rattle.std.specs.declared.cmp.Ordering.TheVariants.{Less, Equal, Greater}
+use Rattle.std.proofs.lemmas.List.{take_more}
 use Rattle.std.specs.FinMap.Entries.{below_all, find, is_sorted}
-use Rattle.finite_map.specs.FiniteMap.{empty, get, get-empty, get-entries, get-insert, get-remove, remove}
+use Rattle.finite_map.specs.FiniteMap.{empty, get, get-empty, get-entries, get-insert, get-remove, insert, remove}
 use Rattle.finite_map.proofs.Edits.{itself, tied}
 use Rattle.wsrep_base.specs.declared.ids.TrxId.{TrxId}
 use Rattle.wsrep_base.specs.Trx.{trx_cmp, same_trx}
@@ -21,8 +22,8 @@ use Rattle.sr_fragments.specs.declared.spot.Spot.{Spot}
 use Rattle.sr_fragments.specs.declared.spot.Place.{Place}
 use Rattle.sr_fragments.specs.Spots.{place_at}
 use Rattle.sr_fragments.specs.HeldIndex.{is_key_at, is_place, is_rising, IsLatestBut}
-use Rattle.sr_fragments.specs.OpenSet.{Open, added, fragments_in, is_place_of, latest, latest_at, stands_at}
-use Rattle.sr_fragments.proofs.LatestLemmas.{at, greater-comm, greater-same, latest-append, latest-step}
+use Rattle.sr_fragments.specs.OpenSet.{Open, added, fragments_in, is_place_of, latest, latest_at, stands_at, stands_of}
+use Rattle.sr_fragments.proofs.LatestLemmas.{at, greater-comm, greater-same, latest-and, latest-append, latest-step}
 
 abbrev pub Entries : Type 0
 Entries = List (TrxId × List Fragment)
@@ -219,9 +220,9 @@ module _ (open_trx : Open) (trx : TrxId) (p : Place) where
       (ap (λ b. cond b (Some more) (get open_trx p.trx)) (sym turned)
       ∙ sym (get-insert trx_total open_trx trx more p.trx))
 
-  -- a transaction with these fragments is closed
+  -- a transaction with these fragments, or one that is not open, is closed
   pub latest-closed : (fragments : List Fragment) (old : Option ℕ)
-      → get open_trx trx ≡ Some fragments
+      → fragments ≡ fragments_in open_trx trx
       → old ≡ latest_at p.spot (fragments_in open_trx p.trx)
       → cond (is_place_of trx fragments p) None old
       ≡ latest_at p.spot (fragments_in (remove open_trx trx) p.trx)
@@ -236,7 +237,7 @@ module _ (open_trx : Open) (trx : TrxId) (p : Place) where
       stood own true any = refl
       stood own false any =
           is ∙ ap (λ t. latest_at p.spot (fragments_in open_trx t)) (sym (its_own own))
-          ∙ ap (λ o. latest_at p.spot (unwrap_or o [])) had
+          ∙ ap (latest_at p.spot) (sym had)
           ∙ latest-none_any (stands_at p.spot) fragments any
 
       by : (b : Bool) → same_trx trx p.trx ≡ b
@@ -244,6 +245,48 @@ module _ (open_trx : Open) (trx : TrxId) (p : Place) where
           ≡ latest_at p.spot (unwrap_or (cond b None (get open_trx p.trx)) [])
       by true own = stood own (list_any (stands_at p.spot) fragments) refl
       by false other = is
+
+  -- these fragments are put in place of those of the transaction
+  pub latest-put : (fragments : List Fragment)
+      → greater (latest_at p.spot (fragments_in (remove open_trx trx) p.trx))
+      (latest (stands_of trx p) fragments)
+      ≡ latest_at p.spot (fragments_in (insert open_trx trx fragments) p.trx)
+  latest-put fragments =
+      (λ i. greater
+      (latest_at p.spot (unwrap_or (get-remove trx_total open_trx trx p.trx i) []))
+      (latest-and (same_trx trx p.trx) (stands_at p.spot) fragments i))
+      ∙ ap (λ b. greater (latest_at p.spot (unwrap_or (cond b None (get open_trx p.trx)) []))
+      (cond (same_trx trx p.trx) (latest_at p.spot fragments) None)) turned
+      ∙ by (same_trx trx p.trx)
+      ∙ ap (λ b. latest_at p.spot (unwrap_or (cond b (Some fragments) (get open_trx p.trx)) []))
+      (sym turned)
+      ∙ ap (λ o. latest_at p.spot (unwrap_or o []))
+      (sym (get-insert trx_total open_trx trx fragments p.trx))
+    where
+      by : (b : Bool)
+          → greater (latest_at p.spot (unwrap_or (cond b None (get open_trx p.trx)) []))
+          (cond b (latest_at p.spot fragments) None)
+          ≡ latest_at p.spot (unwrap_or (cond b (Some fragments) (get open_trx p.trx)) [])
+      by true = refl
+      by false = greater-none (latest_at p.spot (fragments_in open_trx p.trx))
+
+-- some fragments of a transaction are added, and then one more
+pub latest-more : (trx : TrxId) (p : Place) (fragments : List Fragment) (i : ℕ) (f : Fragment)
+    (old now new : Option ℕ)
+    → i < length fragments → now ≡ greater old (latest (stands_of trx p) (take i fragments))
+    → new ≡ cond (is_place trx (get_or fragments i f).keys.entries p
+    && is_rising (get_or fragments i f).number now) (Some (get_or fragments i f).number) now
+    → new ≡ greater old (latest (stands_of trx p) (take (i + 1) fragments))
+latest-more trx p fragments i f old now new inside so_far is =
+    let one = get_or fragments i f in
+    let front = latest (stands_of trx p) (take i fragments) in
+    is ∙ rises (stands_of trx p one) one.number now
+    ∙ ap (λ o. greater o (at (stands_of trx p one) one.number)) so_far
+    ∙ greater-assoc old front (at (stands_of trx p one) one.number)
+    ∙ ap (greater old)
+    (ap (greater front) (sym (latest-alone (stands_of trx p) one))
+    ∙ sym (latest-append (stands_of trx p) (take i fragments) (one ∷ []))
+    ∙ ap (latest (stands_of trx p)) (sym (take_more fragments i f inside)))
 
 -- none is open
 pub latest-empty : (p : Place) → latest_at p.spot (fragments_in empty p.trx) ≡ None

@@ -1,5 +1,5 @@
 -- The open transactions, and what the index finds among their fragments.
-use Rattle.std.specs.Prelude.{◌≡◌, ℕ, ◌==◌, Bool, not, ◌&&◌, List, [], ◌∷◌, ◌++◌, length, map, filter, flat_map, Option, None, unwrap_or}
+use Rattle.std.specs.Prelude.{◌≡◌, ℕ, ◌==◌, Bool, not, ◌&&◌, List, [], ◌∷◌, ◌++◌, length, map, filter, flat_map, Option, unwrap_or}
 use Rattle.std.specs.List.{list_any}
 use Rattle.finite_map.specs.FiniteMap.{FiniteMap, get, insert, retain_keys}
 use Rattle.wsrep_base.specs.declared.ids.TrxId.{TrxId}
@@ -32,11 +32,6 @@ added open_trx trx fragment = insert open_trx trx (fragments_in open_trx trx ++ 
 abbrev pub dropped : Open → ℕ → Open
 dropped open_trx member = retain_keys open_trx (λ trx. not (trx.member == member))
 
--- no transaction is the member's
-abbrev pub HasNoneOf : Open → ℕ → Type 0
-HasNoneOf open_trx member =
-    (trx : TrxId) → trx.member ≡ member → get open_trx trx ≡ None
-
 -- how far a transaction with these fragments has come
 abbrev pub shape_of : List Fragment → Shape
 shape_of fragments = record { fragments = length fragments; last_seen = last_seen_of fragments }
@@ -49,6 +44,10 @@ latest test fragments =
 -- whether a fragment has a key at the spot
 abbrev pub stands_at : Spot → Fragment → Bool
 stands_at spot fragment = list_any (is_key_at spot) fragment.keys.entries
+
+-- whether the place is the transaction's, and a fragment of it has a key at its spot
+abbrev pub stands_of : TrxId → Place → Fragment → Bool
+stands_of trx p fragment = same_trx trx p.trx && stands_at p.spot fragment
 
 -- the greatest fragment that has a key at the spot
 abbrev pub latest_at : Spot → List Fragment → Option ℕ

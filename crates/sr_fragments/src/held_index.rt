@@ -102,6 +102,27 @@ impl HeldIndex {
         raise_all(&mut self.latest, &mut self.order, places, number);
     }
 
+    /// Adds a fragment with this number and these keys. It costs these keys.
+    pub(crate) fn add(
+        &mut self,
+        alloc: Global,
+        trx: TrxId,
+        number: u64,
+        keys: &KeySet,
+    ) -> Result<(), NoMemory>
+        requires { IsIndex self.old }
+        ensures index { OnOk result (IsIndex self.new) }
+        ensures found { OnOk result ((p : Place) → found self.new p
+            ≡ cond (is_place trx keys.now.entries p && is_rising number (found self.old p))
+            (Some number) (found self.old p)) }
+    {
+        let places = self.rising(alloc, trx, number, keys)?;
+        let places = places.as_slice();
+        self.prepare(places, number)?;
+        self.raise(places, number);
+        Ok(())
+    }
+
     /// Forgets all fragments of the transaction where one of these keys is. It costs these keys.
     pub(crate) fn forget(&mut self, trx: TrxId, keys: &KeySet)
         requires index { IsIndex self.old }

@@ -1,22 +1,23 @@
 ghost use Rattle.std.specs.Prelude.{◌≡◌, ◌≤◌, [], ◌∷◌, cond, nat_lt, None, IfOk, IsOk, OnOk, OnErr};
 ghost use Rattle.std.specs.Option.{option_map};
-ghost use Rattle.finite_map.specs.FiniteMap.{empty, get, len, remove};
+ghost use Rattle.finite_map.specs.FiniteMap.{empty, get, len, remove, retain_keys};
 ghost use Rattle.key_sets.specs.Keys.{LIMIT};
 ghost use Rattle.cert_meaning.specs.Extremes.{greater};
+ghost use Rattle.cert_meaning.specs.Fold.{is_of};
 ghost use Rattle.cert_meaning.specs.Parts.{open_items};
 ghost use Rattle.cert_meaning.specs.State.{fragments_but, whole_keys};
 ghost use Rattle.cert_meaning.specs.Verdict.{greatest_touching};
-ghost use Rattle.cert_meaning.specs.Whole.{whole_of};
+ghost use Rattle.cert_meaning.specs.Whole.{whole_of, within};
 ghost use Rattle.sr_fragments.specs.HeldIndex.{found, IsIndex};
 ghost use Rattle.sr_fragments.specs.OpenSet.{added, dropped, fragments_in, is_place_of, latest, latest_at, meets, pair_meets, shape_of};
 ghost use Rattle.sr_fragments.specs.declared.spot.Place.{Place};
 
-use crate::fragments::last_seen_of;
+mod parts;
+
 use crate::held_index::HeldIndex;
-use crate::open_table::OpenTable;
 use crate::shape::Shape;
 use crate::spot::{Spot, is_changing};
-use cert_meaning::{Fragment, OpenList, Whole};
+use cert_meaning::{Fragment, OpenList, OpenTable, Whole, last_seen_of};
 use key_sets::{KeySet, Kind, Parts};
 use std::alloc::{AllocError, Global};
 use std::marker::Model;
@@ -80,9 +81,8 @@ impl OpenSet {
     pub fn close(&mut self, trx: TrxId)
         ensures { self.new ≡ remove self.old trx }
     {
-        if let Some(gathered) = self.open.close(trx) {
-            forget_all(&mut self.index, trx, gathered.fragments());
-        }
+        forget_all(&mut self.index, trx, self.open.fragments(trx));
+        self.open.close(trx);
     }
 
     /// No transaction of the member is open any longer. It takes no memory.
@@ -90,6 +90,15 @@ impl OpenSet {
         ensures { self.new ≡ dropped self.old member }
     {
         while let Some(trx) = self.open.one_of(member) {
+            self.close(trx);
+        }
+    }
+
+    /// Only transactions of these members stay open. It takes no memory.
+    pub fn keep_of(&mut self, members: &[u32])
+        ensures { self.new ≡ retain_keys self.old (is_of members.now) }
+    {
+        while let Some(trx) = self.open.one_outside(members) {
             self.close(trx);
         }
     }
@@ -104,6 +113,21 @@ impl OpenSet {
             greatest = greater(greatest, self.held_at(parts, *kind, other_than));
         }
         greatest
+    }
+
+    /// The fragments of a transaction, oldest first; none where it is not open.
+    pub fn fragments(&self, trx: TrxId) -> &[Fragment]
+        ensures { result.now ≡ fragments_in self.now trx }
+    {
+        self.open.fragments(trx)
+    }
+
+    /// All keys of a transaction with one more write set. None where they pass what a set may have.
+    pub fn whole_keys(&self, trx: TrxId, keys: &KeySet) -> Result<Option<KeySet>, NoMemory>
+        ensures { IfOk result
+            (λ whole. whole ≡ within (whole_keys (fragments_in self.now trx) keys.now)) }
+    {
+        self.open.whole_keys(self.alloc, trx, keys)
     }
 
     /// All keys and all changes of a transaction's fragments. None where it is not open.
@@ -127,10 +151,10 @@ impl OpenSet {
     pub fn shape(&self, trx: TrxId) -> Option<Shape>
         ensures { result ≡ option_map shape_of (get self.now trx) }
     {
-        match self.open.fragments(trx) {
-            Some(fragments) => Some(shape_of(fragments)),
-            None => None,
+        if !self.open.is_open(trx) {
+            return None;
         }
+        Some(shape_of(self.open.fragments(trx)))
     }
 
     /// How many transactions are open. It takes no memory.

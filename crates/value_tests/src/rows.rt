@@ -21,6 +21,13 @@ fn digits_of(word: &str) -> &str {
         "update" => "0204616363740161",
         // The key, and an insert with the value 100.
         "whole" => "00000001020304616363740161000000010104616363740161010000000000000064",
+        // The same key for an update, which sets the first column to 5.
+        "updated" => "0000000102020461636374016100000001020461636374016101010000000000000005",
+        // Keys without a change: that key shared, the key of another row, and those of the table.
+        "share" => "0000000102010461636374016100000000",
+        "other" => "0000000102030461636374016200000000",
+        "share_table" => "000000010101046163637400000000",
+        "whole_table" => "000000010103046163637400000000",
         word => word,
     }
 }

@@ -13,7 +13,7 @@ use wsrep_base::NoMemory;
 impl OpenTable {
     /// The transactions of these items. Of items of one transaction the first counts. For one with
     /// more keys than a set may have there is no room.
-    pub(crate) fn of(alloc: Global, items: OpenList) -> Result<OpenTable, NoMemory>
+    pub fn of(alloc: Global, items: OpenList) -> Result<OpenTable, NoMemory>
         ensures { IfOk result (λ table. table ≡ open_of items) }
     {
         let mut table = OpenTable::new(alloc);
@@ -24,8 +24,9 @@ impl OpenTable {
         Ok(table)
     }
 
-    // Puts the item in, in place of one of its transaction.
-    fn put(&mut self, alloc: Global, item: OpenItem) -> Result<(), NoMemory>
+    /// Puts the item in, in place of one of its transaction. For one with more keys than a set may
+    /// have there is no room.
+    pub fn put(&mut self, alloc: Global, item: OpenItem) -> Result<(), NoMemory>
         ensures { OnOk result (self.new ≡ insert self.old item.trx item.fragments) }
     {
         let gathered = Gathered::of(alloc, item.fragments)?;
@@ -34,7 +35,7 @@ impl OpenTable {
     }
 
     /// The transactions, by member and then by begin number.
-    pub(crate) fn items(&self, alloc: Global) -> Result<OpenList, NoMemory>
+    pub fn items(&self, alloc: Global) -> Result<OpenList, NoMemory>
         ensures { IfOk result (λ items. items ≡ open_items self.now) }
     {
         let mut items = OpenList::new(alloc);

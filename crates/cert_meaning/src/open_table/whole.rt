@@ -15,7 +15,7 @@ use wsrep_base::{NoMemory, TrxId};
 
 impl OpenTable {
     /// All keys of a transaction with one more write set. None where they pass what a set may have.
-    pub(crate) fn whole_keys(
+    pub fn whole_keys(
         &self,
         alloc: Global,
         trx: TrxId,
@@ -31,12 +31,7 @@ impl OpenTable {
     }
 
     /// Whether a transaction with one more write set has more keys than a set may have.
-    pub(crate) fn is_too_large(
-        &self,
-        alloc: Global,
-        trx: TrxId,
-        keys: &KeySet,
-    ) -> Result<bool, NoMemory>
+    pub fn is_too_large(&self, alloc: Global, trx: TrxId, keys: &KeySet) -> Result<bool, NoMemory>
         ensures { IfOk result
             (λ large. large
             ≡ nat_lt LIMIT (len (whole_keys (unwrap_or (get self.now trx) []) keys.now))) }
@@ -48,7 +43,7 @@ impl OpenTable {
     }
 
     /// All keys and all changes of a transaction. None where it is not open.
-    pub(crate) fn whole(&self, alloc: Global, trx: TrxId) -> Result<Option<Whole>, NoMemory>
+    pub fn whole(&self, alloc: Global, trx: TrxId) -> Result<Option<Whole>, NoMemory>
         ensures { IfOk result (λ whole. whole ≡ option_map whole_of (get self.now trx)) }
     {
         match self.gathered(trx) {

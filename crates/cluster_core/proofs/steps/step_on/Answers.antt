@@ -1,5 +1,5 @@
 -- The steps that may want memory, and those that do nothing.
-use Rattle.std.proofs.Common.{◌≡◌, refl, subst, arith}
+use Rattle.std.proofs.Common.{◌≡◌, refl, subst}
 use Rattle.order_event.specs.declared.step.Act.TheVariants as act
 use Rattle.cluster_core.specs.Seated.{seen}
 use Rattle.cluster_core.specs.Transfers.{IsAlone}
@@ -11,7 +11,7 @@ pub returns-in-Status-clause-ok : goal.returns-in-Status-clause-ok
 returns-in-Status-clause-ok g c =
     rw c.in-Status.is
     (acted_alone act.Status (g.G.Group.order c.args.group.now) (seen c.args.seat.now) c.requires.kept (seen c.args.seat.now) c.status.result
-    (c.status.ensures (g.G.Group.order c.args.group.now) (let few = c.requires.events in omega (arith, few)) c.requires.kept.seated)
+    (c.status.ensures (g.G.Group.order c.args.group.now) c.requires.kept.seated)
     (λ _ _ _. refl))
 
 pub unreachable-requires : goal.unreachable-requires

@@ -1,7 +1,7 @@
 -- Each turn puts the last row that is left.
-use Rattle.std.proofs.Common.{◌≡◌, ◌≤◌, ◌+◌, List, [], ◌∷◌, ◌++◌, length, sym, ap, subst, ◌∙◌, arith, length-append}
-use Rattle.finite_map.specs.FiniteMap.{FiniteMap, get, get-empty}
-use Rattle.row_model.specs.Rows.{Rows, row_cmp}
+use Rattle.std.proofs.Common.{◌≡◌, ◌≤◌, List, [], ◌∷◌, ◌++◌, length, sym, ap, subst, ◌∙◌, arith, length-append}
+use Rattle.finite_map.specs.FiniteMap.{get, get-empty}
+use Rattle.row_model.specs.Rows.{row_cmp}
 use Rattle.row_model.specs.declared.row.RowItem.{RowItem}
 use Rattle.undo_rows.specs.RowTable.{Changes}
 use Rattle.cert_meaning.specs.Parts.{row_entry}

@@ -3,10 +3,9 @@ use Rattle.std.proofs.Common.{rules, ◌≡◌, Bool, true, false, refl, ap, sym
 use Rattle.std.specs.Prelude.{◌&&◌}
 use Rattle.gcache_ring.specs.Held.{range_of}
 use Rattle.cert_meaning.specs.State.{FoldState}
-use Rattle.cert_meaning.specs.Fold.{state_at}
 use Rattle.cert_meaning.specs.Parts.{parts_of}
 use Rattle.state_snapshot.specs.Rules.{Obeys}
-use Rattle.state_snapshot.specs.Spelling.{spelling, snapshot_of}
+use Rattle.state_snapshot.specs.Spelling.{spelling}
 use Rattle.state_snapshot.proofs.TakeLaws as laws
 use Rattle.node_core.specs.Giving.{is_in}
 use Rattle.node_core.proofs.GiveCalls.{gives_is, events_given, is_given}
@@ -28,15 +27,19 @@ returns-then-is_in c = λ order st.
           c.in_ok-events_from.ensures,
     )
 
+pub committed_state-requires-clause-stands : goal.committed_state-requires-clause-stands
+committed_state-requires-clause-stands c = (c.requires.stands.order, c.requires.stands.stands)
+
 pub take-requires-clause-rules : goal.take-requires-clause-rules
 take-requires-clause-rules c =
     let g = c.requires.stands in
     let at = c.args.self.now.at in
     let o = g.stands.facts.in_order in
     subst (λ (s : FoldState). Obeys (parts_of s))
-    (sym (c.state.ensures g.order at.committed at.certified g.stands.certification))
-    (laws.can_be_taken g.order at.certified (omega (arith, o.certified_fits, o.taken_fits))
-    (omega (arith, o.certified_fits, c.requires.few)) g.fits)
+    (sym (c.in_ok-state.ensures g.order g.stands))
+    (laws.can_be_taken g.order at.committed
+    (omega (arith, o.committed_fits, o.certified_fits, o.taken_fits))
+    (omega (arith, o.committed_fits, o.certified_fits, c.requires.few)) g.fits)
 
 pub returns : goal.returns
 returns c = λ order st.
@@ -55,9 +58,7 @@ returns c = λ order st.
       record {
         given = is_given node.id (st.serves.id c.requires.connected);
         sized = c.id_in_range.ensures;
-        spelled = c.in_ok-bytes.ensures
-            ∙ ap (λ (s : FoldState). spelling (parts_of s) node.id)
-            (c.state.ensures order node.at.committed node.at.certified st.certification)
-            ∙ ap (λ k. snapshot_of (state_at order k) node.id) c.if-at.false;
+        spelled = c.in_ok-take.ensures
+            ∙ ap (λ (s : FoldState). spelling (parts_of s) node.id) (c.in_ok-state.ensures order st);
       },
     )

@@ -1,5 +1,5 @@
 -- The node waits for a state.
-use Rattle.std.proofs.Common.{◌∙◌, ap, sym, refl, List, ℕ, Bool}
+use Rattle.std.proofs.Common.{◌∙◌, ap, sym, Bool}
 use Rattle.std.specs.Prelude.{if◌then◌else◌}
 use Rattle.wsrep_base.specs.StateId.{nil_id}
 use Rattle.node_core.proofs.JoinCalls.{join_does}

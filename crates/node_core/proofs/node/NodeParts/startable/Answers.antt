@@ -23,18 +23,18 @@ returns-then-is_local-clause-err c order stands =
     (sym c.commit_at.ensures ∙ ap (λ o. option_copied o) c.in-Some.is) (sym c.contains.ensures.units ∙ c.if-contains.false)
     (sym c.is_local.ensures ∙ c.if-is_local.true)
 
-pub returns-in-Some-touching_between-clause-err : goal.returns-in-Some-touching_between-clause-err
-returns-in-Some-touching_between-clause-err c order stands =
+pub returns-in-Some-in_the_way-clause-err : goal.returns-in-Some-in_the_way-clause-err
+returns-in-Some-in_the_way-clause-err c order stands =
     start_later order c.args.self.now c.args.number stands c.if-number-self.false c.in-Some.commit.now
     (sym c.commit_at.ensures ∙ ap (λ o. option_copied o) c.in-Some.is) (sym c.contains.ensures.units ∙ c.if-contains.false)
-    (sym c.is_local.ensures ∙ c.if-is_local.false) c.touching_between.result
-    c.touching_between.ensures
-    c.in-Some-touching_between.earlier c.in-Some-touching_between.is
+    (sym c.is_local.ensures ∙ c.if-is_local.false) c.in_the_way.result
+    c.in_the_way.ensures
+    c.in-Some-in_the_way.earlier c.in-Some-in_the_way.is
 
 pub returns-clause-ok : goal.returns-clause-ok
 returns-clause-ok c order stands =
     startable order c.args.self.now c.args.number stands c.if-number-self.false c.in-Some.commit.now
     (sym c.commit_at.ensures ∙ ap (λ o. option_copied o) c.in-Some.is) (sym c.contains.ensures.units ∙ c.if-contains.false)
-    (sym c.is_local.ensures ∙ c.if-is_local.false) c.touching_between.result
-    c.touching_between.ensures
-    c.in_default-touching_between.is
+    (sym c.is_local.ensures ∙ c.if-is_local.false) c.in_the_way.result
+    c.in_the_way.ensures
+    c.in_default-in_the_way.is

@@ -2,7 +2,7 @@ use Rattle.std.proofs.Common.{◌≡◌, ◌∙◌, sym, ap, arith}
 use Rattle.std.proofs.lemmas.Grind.{common_steps}
 use Rattle.std.specs.List.{remove}
 use Rattle.finite_map.specs.FiniteMap.{get}
-use Rattle.node_parts.specs.Passed.{PassedOps}
+use Rattle.node_parts.specs.Passed.{PassedCommits}
 use Rattle.node_parts.proofs.MapLaws.{removed_absent}
 use Rattle.node_parts.proofs.RisingLaws.{removed, get_nowhere}
 use Rattle.node_parts.proofs.passed.Passed.remove.Goals as goal
@@ -11,17 +11,17 @@ use Rattle.node_parts.proofs.passed.Passed.remove.Goals.{Joined-remove, in-Some-
 less : (c : Joined-remove) → c.remove.new.self.items ≡ remove c.self.inside.commits.items c.in-Some.at
 less c = let within = c.in-Some.ensures.0 in grind (arith, common_steps, within)
 
-pub returns-in-Some-clause-ops : goal.returns-in-Some-clause-ops
-returns-in-Some-clause-ops c =
-    let now = removed c.self.inside.commits.items c.remove.new.self.items c.args.self.now.ops c.in-Some.at c.args.number
-    c.self.invariant (ap (λ (p : PassedOps). p.ops) c.self.view_is) c.in-Some.ensures (less c) in
+pub returns-in-Some-clause-commits : goal.returns-in-Some-clause-commits
+returns-in-Some-clause-commits c =
+    let now = removed c.self.inside.commits.items c.remove.new.self.items c.args.self.now.commits c.in-Some.at c.args.number
+    c.self.invariant (ap (λ (p : PassedCommits). p.commits) c.self.view_is) c.in-Some.ensures (less c) in
     elim c.match-remove.branch [
-      | in-Some-1 w ↦ ap (λ (p : PassedOps). p.ops) w.self-is ∙ now
-      | in-None-1 w ↦ ap (λ (p : PassedOps). p.ops) w.self-is ∙ now
+      | in-Some-1 w ↦ ap (λ (p : PassedCommits). p.commits) w.self-is ∙ now
+      | in-None-1 w ↦ ap (λ (p : PassedCommits). p.commits) w.self-is ∙ now
     ]
 
-pub returns-in_default-clause-ops : goal.returns-in_default-clause-ops
-returns-in_default-clause-ops c =
-    sym (removed_absent c.args.self.now.ops c.args.number
-    (sym (ap (λ (p : PassedOps). get p.ops c.args.number) c.self.view_is)
+pub returns-in_default-clause-commits : goal.returns-in_default-clause-commits
+returns-in_default-clause-commits c =
+    sym (removed_absent c.args.self.now.commits c.args.number
+    (sym (ap (λ (p : PassedCommits). get p.commits c.args.number) c.self.view_is)
     ∙ get_nowhere c.self.inside.commits.items c.args.number c.in_default.ensures))

@@ -2,8 +2,9 @@
 use Rattle.std.proofs.Common.{◌≡◌, ◌+◌, true, cond, arith, sym, ap, subst, ◌∙◌}
 use Rattle.std.specs.Prelude.{is_some}
 use Rattle.finite_map.specs.FiniteMap.{get, len, len_before_remove, remove}
+use Rattle.cert_meaning.specs.OpenSearch.{HasNoneOf}
 use Rattle.cert_meaning.proofs.TrxLemmas.{trx_total}
-use Rattle.sr_fragments.specs.OpenSet.{Open, dropped, HasNoneOf}
+use Rattle.sr_fragments.specs.OpenSet.{Open, dropped}
 use Rattle.sr_fragments.proofs.DropLemmas.{dropped-none, dropped-removed}
 use Rattle.sr_fragments.proofs.open_set.OpenSet.drop_member.Goals as goal
 
