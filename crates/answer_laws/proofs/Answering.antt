@@ -14,7 +14,7 @@ use Rattle.client_trx.specs.Live.{Live}
 use Rattle.node_meaning.specs.Node.{ModelNode, start_node}
 use Rattle.node_meaning.specs.Client.{asked, told_first, client}
 use Rattle.node_meaning.proofs.EntryLaws.{some_not_none}
-use Rattle.course_laws.specs.Courses.{Course, Happens, Others, Does, Takes, Installs, next, course, Fits, AllFit, start_course}
+use Rattle.course_laws.specs.Courses.{Course, Happens, Does, next, course, Fits, AllFit, start_course}
 use Rattle.course_laws.proofs.CourseEnds.{course_longer, start_course_kept, is_numbered}
 use Rattle.answer_laws.specs.Answers.{Asker, asker_of, asked_by, told, IsBare, IsRight, IsRightTo, AreRight, AnswersAreRight}
 use Rattle.answer_laws.proofs.Pasts.{Pasts}
@@ -98,8 +98,8 @@ module _ (most : ℕ) (few : most ≤ 2 ^ 63) (c : Course) (askers : Askers)
         subst (λ m. Says c.former c.order m c.node.at.committed (get askers s) false otherwise.0)
         is
         (answered (get c.node.live s) refl otherwise.1 otherwise.0
-        (asked_told c.order c.node h.kept.kept.follows.facts h.past s (λ t _. r)
-        (get c.node.live s) call refl))
+        (asked_told c.order c.node h.kept.kept.follows.facts h.past s r (get c.node.live s) call
+        refl).0)
 
     pub call_says : Says c.former c.order after c.node.at.committed (get askers s)
         (is_some (get c.node.waiting s)) (client c.order c.node s call).0
@@ -160,10 +160,7 @@ module _ (most : ℕ) (c : Course) (askers : Askers) (happens : List Happens)
         (call_says most (omega (arith, few)) c askers h s call fits.0 room),
     rest,
   )
-  step_right (Does _) fits short room right rest = rest
-  step_right (Others events) fits short room right rest = rest
-  step_right (Takes last) fits short room right rest = rest
-  step_right (Installs number id) fits short room right rest = rest
+  step_right _ fits short room right rest = rest
 
 all_right : (most : ℕ) (c : Course) (askers : Askers) (happens : List Happens)
     → most + length happens ≤ 2 ^ 63 → AllFit c happens

@@ -1,7 +1,6 @@
 -- What an answer claims when it begins to wait: of a transaction that commits, and of one that a
 -- unit aborts.
-use Rattle.std.proofs.Common.{◌≡◌, ℕ, ◌+◌, ◌≤◌, Bool, true, false, List, length, Option, Some, None, refl, ap, subst, ◌∙◌, arith, ltb-true, ltb-false}
-use Rattle.std.specs.Prelude.{nat_lt}
+use Rattle.std.proofs.Common.{◌≡◌, ℕ, ◌+◌, ◌≤◌, Bool, true, false, List, length, Option, Some, None, refl, ap, subst, ◌∙◌, arith, ◌<◌}
 use Rattle.finite_map.specs.FiniteMap.{get, remove}
 use Rattle.finite_map.proofs.Edits.{numbers, untied, left}
 use Rattle.wsrep_base.specs.declared.ids.TrxId.{TrxId}
@@ -27,9 +26,6 @@ use Rattle.answer_laws.proofs.Counted.{sent-one, one_there, end_is, no_end}
 use Rattle.answer_laws.proofs.Made.{made_at}
 use Rattle.answer_laws.proofs.Pasts.{Pasts}
 use Rattle.answer_laws.proofs.Claims.{IsShut, Unended, Defeats, Stands}
-
-none_first : (a b : ℕ) → a + b ≡ 0 → 1 ≤ a → ⊥
-none_first a b none one = omega (arith, none, one)
 
 module _ (order : List Event) (n : ModelNode) (f : Facts order n) where
   abbrev m : ℕ
@@ -62,12 +58,9 @@ module _ (order : List Event) (n : ModelNode) (f : Facts order n) where
   module _ (h : Pasts order n) (s : ℕ) (t : Live) (there : get n.live s ≡ Some t) where
     -- what fails of it stands behind all that is certified
     pub fails_behind : (v : ℕ) → v ≤ c → FailsBehind order v t.trx
-    fails_behind v within before w at fails = by (nat_lt before c) refl
-      where
-        by : (b : Bool) → nat_lt before c ≡ b → v ≤ before
-        by true below =
-            absurd (fails ((h.each s t there).passed before w (ltb-true before c below) at))
-        by false above = let behind = ltb-false before c above in omega (arith, within, behind)
+    fails_behind v within before w at fails =
+        let out : before < c → ⊥ = λ below. fails ((h.each s t there).passed before w below at) in
+        grind (arith, within, out)
 
     -- a passed commit is another one's
     pub not_own : (v : ℕ) (item : CommitItem) → v ≤ length order → commit_at order v ≡ Some item
@@ -78,10 +71,10 @@ module _ (order : List Event) (n : ModelNode) (f : Facts order n) where
         ∙ (l.each s t there).of_member in
         let begin : made.set.begin ≡ t.trx.begin =
         ap (λ (x : TrxId). x.begin) (made.write.of_trx ∙ same) in
-        none_first _ _ ((h.each s t there).unended may)
-        (one_there (is_end_of t.trx.begin) m order made.before made.write.body made.set
+        let one = one_there (is_end_of t.trx.begin) m order made.before made.write.body made.set
         (made.write.there ∙ ap (λ k. Some (event.Write k made.write.body)) home) made.write.is
-        (end_is t.trx.begin made.set begin made.ends))
+        (end_is t.trx.begin made.set begin made.ends) in
+        let none = (h.each s t there).unended may in omega (arith, one, none)
 
     pub gone_from : (q : ℕ) (u : Live) → get (remove n.live s) q ≡ Some u
         → u.trx.begin ≡ t.trx.begin → ⊥

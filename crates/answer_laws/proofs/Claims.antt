@@ -1,10 +1,10 @@
 -- What an answer claims of its transaction when it is given: each move keeps it, and so does an
 -- order that grows.
-use Rattle.std.proofs.Common.{◌≡◌, ℕ, zero, suc, ◌+◌, ◌≤◌, ◌<◌, Bool, true, false, List, [], ◌∷◌, ◌++◌, length, Some, refl, ap, sym, subst, ◌∙◌, arith}
+use Rattle.std.proofs.Common.{◌≡◌, ℕ, zero, suc, ◌+◌, ◌≤◌, ◌<◌, Bool, true, false, List, [], ◌∷◌, ◌++◌, length, Some, refl, sym, subst, ◌∙◌, arith}
 use Rattle.std.specs.Prelude.{◌==◌}
 use Rattle.std.specs.Ordering.{nat_cmp}
 use Rattle.finite_map.specs.FiniteMap.{FiniteMap, get, insert, remove}
-use Rattle.finite_map.proofs.Edits.{numbers, Inserted, AtKey, Elsewhere, inserted, left}
+use Rattle.finite_map.proofs.Edits.{numbers, each_put, each_left}
 use Rattle.wsrep_base.specs.declared.ids.TrxId.{TrxId}
 use Rattle.row_model.specs.declared.calls.Reply.{Reply}
 use Rattle.row_model.specs.declared.calls.Reply.TheVariants as reply
@@ -45,27 +45,23 @@ Shut test order n trx = IsShut test order n.at.member n.at.begin n.outbox n.live
 module _ (test : WriteSet → Bool) (trx : TrxId)
     (kind : (w : WriteSet) → w.begin == trx.begin ≡ false → test w ≡ false)
     (order : List Event) (n : ModelNode) (f : Facts order n) (h : Shut test order n trx) where
-  shut_put : (s : ℕ) (t u : Live) → get n.live s ≡ Some t → u.trx.begin ≡ t.trx.begin
-      → IsShut test order n.at.member n.at.begin n.outbox (insert n.live s u) trx
-  shut_put s t u there same = record {
-    home = h.home;
-    begun = h.begun;
-    gone = λ q v at. by q v (inserted numbers n.live s u q v at);
-    none = h.none;
-  }
-    where
-      by : (q : ℕ) (v : Live) → Inserted numbers n.live s u q v → v.trx.begin ≡ trx.begin → ⊥
-      by q v (AtKey here is) own =
-          h.gone s t there (sym same ∙ ap (λ (x : Live). x.trx.begin) (sym is) ∙ own)
-      by q v (Elsewhere differs at) own = h.gone q v at own
+  abbrev Apart : ℕ → Live → Type 0
+  Apart s t = t.trx.begin ≡ trx.begin → ⊥
 
-  shut_gone : (s : ℕ) → IsShut test order n.at.member n.at.begin n.outbox (remove n.live s) trx
-  shut_gone s = record {
-    home = h.home;
-    begun = h.begun;
-    gone = λ q v at own. h.gone q v (left numbers n.live s q v at).there own;
-    none = h.none;
-  }
+  gone_put : (s : ℕ) (t u : Live) → get n.live s ≡ Some t → u.trx.begin ≡ t.trx.begin
+      → (q : ℕ) (v : Live) → get (insert n.live s u) q ≡ Some v → Apart q v
+  gone_put s t u there same =
+      each_put numbers n.live s Apart h.gone u (λ own. h.gone s t there (sym same ∙ own))
+
+  gone_left : (s q : ℕ) (v : Live) → get (remove n.live s) q ≡ Some v → Apart q v
+  gone_left s = each_left numbers n.live s Apart h.gone
+
+  -- with other live ones, where nothing of the kind waits either
+  shut_with : {outbox : List Message} {live : FiniteMap nat_cmp Live}
+      → count_sent test n.at.member order outbox ≡ 0
+      → ((s : ℕ) (t : Live) → get live s ≡ Some t → Apart s t)
+      → IsShut test order n.at.member n.at.begin outbox live trx
+  shut_with none gone = record { home = h.home; begun = h.begun; gone = gone; none = none }
 
   sent_none : (s : ℕ) (t : Live) (w : WriteSet) → get n.live s ≡ Some t → w.begin ≡ t.trx.begin
       → decoded (spelling w) ≡ Some w
@@ -75,50 +71,30 @@ module _ (test : WriteSet → Bool) (trx : TrxId)
       let one = sent-one test n.at.member order n.outbox w false read (kind w other) in
       omega (arith, one, h.none)
 
-  begun_gone : (s unit q : ℕ) (v : Live)
-      → Inserted numbers n.live s (first n.at.member n.at.begin unit) q v
-      → v.trx.begin ≡ trx.begin → ⊥
-  begun_gone s unit q v (AtKey here is) own =
-      let same : n.at.begin ≡ v.trx.begin = ap (λ (x : Live). x.trx.begin) (sym is) in
-      omega (arith, h.begun, same, own)
-  begun_gone s unit q v (Elsewhere differs at) own = h.gone q v at own
-
   pub shut_moved : (given : Type 0) → given → (k : Kind) (m : ModelNode) → May true k
       → Move order given n k m → Shut test order m trx
   shut_moved given g k m may (Begins s unit can) = record {
     home = h.home;
     begun = omega (arith, h.begun);
-    gone = λ q v at. begun_gone s unit q v
-        (inserted numbers n.live s (first n.at.member n.at.begin unit) q v at);
+    gone = each_put numbers n.live s Apart h.gone (first n.at.member n.at.begin unit)
+        (λ own. omega (arith, h.begun, own));
     none = h.none;
   }
   shut_moved given g k m may (Extends s t st here fits free) =
-      shut_put s t (extended t st) here.there refl
+      shut_with h.none (gone_put s t (extended t st) here.there refl)
   shut_moved given g k m may (Streams s t here change range) =
       let own = (sets_lined order n f).each s t here.there in
-      let w = fragment_of t n.at.serial n.at.committed in
       let read = fragment-decoded n.at t (range g) own.of_member own.begun
       (f.sendable s t here.there) in
-      let put = shut_put s t (fragment_sent t) here.there refl in
-      record {
-        home = h.home;
-        begun = h.begun;
-        gone = put.gone;
-        none = sent_none s t w here.there refl read;
-      }
+      shut_with (sent_none s t (fragment_of t n.at.serial n.at.committed) here.there refl read)
+      (gone_put s t (fragment_sent t) here.there refl)
   shut_moved given g k m may (Sends s t here range) =
       let own = (sets_lined order n f).each s t here.there in
-      let w = commit_of t n.at.serial n.at.committed in
       let read = commit-decoded n.at t (range g) own.of_member own.begun
       (f.sendable s t here.there) in
-      let put = shut_put s t (with_status t status.CommitSent) here.there refl in
-      record {
-        home = h.home;
-        begun = h.begun;
-        gone = put.gone;
-        none = sent_none s t w here.there refl read;
-      }
-  shut_moved given g k m may (Ends s t o there) = shut_gone s
+      shut_with (sent_none s t (commit_of t n.at.serial n.at.committed) here.there refl read)
+      (gone_put s t (with_status t status.CommitSent) here.there refl)
+  shut_moved given g k m may (Ends s t o there) = shut_with h.none (gone_left s)
   shut_moved given g k m may (TakesBack s t w o there due range) =
       let own = (sets_lined order n f).each s t there in
       let inside : n.at.committed ≤ length order =
@@ -126,28 +102,20 @@ module _ (test : WriteSet → Bool) (trx : TrxId)
       let back = rollback_of t n.at.serial n.at.committed in
       let read = rollback-decoded n.at t (range g inside) own.of_member own.begun
       (f.sendable s t there) in
-      let now : Shut test order (ended_with n s back o) trx = record {
-        home = h.home;
-        begun = h.begun;
-        gone = (shut_gone s).gone;
-        none = sent_none s t back there refl read;
-      } in
       subst (λ x. Shut test order (ended_with n s x o) trx)
-      (due_is t n.at.serial n.at.committed w due) now
+      (due_is t n.at.serial n.at.committed w due)
+      (shut_with (sent_none s t back there refl read) (gone_left s))
   shut_moved given g k m may (Unlocks s t to there unlocked) =
-      shut_put s t (with_status t to) there refl
-  shut_moved given g k m may (Reports stays) = record {
-    home = h.home;
-    begun = h.begun;
-    gone = h.gone;
-    none = sent-report test n.at.member order n.outbox n.at.committed ∙ h.none;
-  }
+      shut_with h.none (gone_put s t (with_status t to) there refl)
+  shut_moved given g k m may (Reports stays) =
+      shut_with (sent-report test n.at.member order n.outbox n.at.committed ∙ h.none) h.gone
   shut_moved given g k m may (Orders front back is) = absurd may
   shut_moved given g k m may (Leaves stay) = absurd may
   shut_moved given g k m may (Passes s t body w judged pass) =
-      shut_put s t (with_status t (passed_status (n.at.certified + 1) t.status)) judged.there refl
-  shut_moved given g k m may (Fails s t body w v judged came) = shut_gone s
-  shut_moved given g k m may (Commits s t can there is) = shut_gone s
+      shut_with h.none (gone_put s t (with_status t (passed_status (n.at.certified + 1) t.status))
+      judged.there refl)
+  shut_moved given g k m may (Fails s t body w v judged came) = shut_with h.none (gone_left s)
+  shut_moved given g k m may (Commits s t can there is) = shut_with h.none (gone_left s)
   shut_moved given g k m may _ = h
 
 -- ---- no commit of it passes, now or later
@@ -193,38 +161,38 @@ ClaimOf order member begin p outbox live a answer = Unit {0}
 abbrev pub Claim : List Event → ModelNode → Asker → Reply → Type 0
 Claim order n a r = ClaimOf order n.at.member n.at.begin n.at.committed n.outbox n.live a r
 
-module _ (order : List Event) (n : ModelNode) (f : Facts order n) (given : Type 0) (g : given)
-    (k : Kind) (m : ModelNode) (may : May true k) (move : Move order given n k m)
-    (same : m.at.member ≡ n.at.member) (grows : n.at.committed ≤ m.at.committed) (a : Asker) where
-  barred_moved : IsBarred order n.at.member n.at.begin n.outbox n.live a.trx
+-- over one order a claim is kept, where what is shut is
+module _ (order : List Event) (n m : ModelNode) (same : m.at.member ≡ n.at.member)
+    (grows : n.at.committed ≤ m.at.committed) (a : Asker)
+    (shut : (test : WriteSet → Bool)
+    → ((w : WriteSet) → w.begin == a.trx.begin ≡ false → test w ≡ false)
+    → Shut test order n a.trx → Shut test order m a.trx) where
+  barred_kept : IsBarred order n.at.member n.at.begin n.outbox n.live a.trx
       → IsBarred order m.at.member m.at.begin m.outbox m.live a.trx
-  barred_moved (Unended h) =
-      Unended (shut_moved (is_end_of a.trx.begin) a.trx (end_of_other a.trx.begin) order n f h
-      given g k m may move)
-  barred_moved (Failed before w home at ends fails) =
+  barred_kept (Unended h) = Unended (shut (is_end_of a.trx.begin) (end_of_other a.trx.begin) h)
+  barred_kept (Failed before w home at ends fails) =
       Failed before w (home ∙ sym same) at ends fails
 
-  defeats_moved : (v : ℕ) → Defeats order n.at.member n.at.begin n.outbox n.live v a
+  defeats_kept : (v : ℕ) → Defeats order n.at.member n.at.begin n.outbox n.live v a
       → Defeats order m.at.member m.at.begin m.outbox m.live v a
-  defeats_moved v h = record {
+  defeats_kept v h = record {
     within = h.within;
     prevailed = h.prevailed;
     behind = h.behind;
-    barred = barred_moved h.barred;
+    barred = barred_kept h.barred;
   }
 
-  pub claim_moved : (r : Reply) → Claim order n a r → Claim order m a r
-  claim_moved (reply.Committed zero) h =
-      shut_moved (is_of a.trx.begin) a.trx (λ w other. other) order n f h given g k m may move
-  claim_moved (reply.Committed (suc j)) h = record {
+  pub claim_kept : (r : Reply) → Claim order n a r → Claim order m a r
+  claim_kept (reply.Committed zero) h = shut (is_of a.trx.begin) (λ w other. other) h
+  claim_kept (reply.Committed (suc j)) h = record {
     home = h.home ∙ sym same;
     above = h.above;
     within = omega (arith, h.within, grows);
     stands = h.stands;
     changes = h.changes;
   }
-  claim_moved (reply.DeadlockCert v) h = defeats_moved v h
-  claim_moved (reply.DeadlockBf v) h = defeats_moved v h
-  claim_moved reply.RolledBack h = barred_moved h
-  claim_moved reply.Disconnected h = barred_moved h
-  claim_moved _ h = tt
+  claim_kept (reply.DeadlockCert v) h = defeats_kept v h
+  claim_kept (reply.DeadlockBf v) h = defeats_kept v h
+  claim_kept reply.RolledBack h = barred_kept h
+  claim_kept reply.Disconnected h = barred_kept h
+  claim_kept _ h = tt

@@ -1,9 +1,8 @@
 -- What a client call is told: nothing of a transaction, or a claim that holds.
-use Rattle.std.proofs.Common.{◌≡◌, ℕ, Bool, true, false, cond, List, [], ◌∷◌, length, Option, Some, None, refl, ap, sym, ◌∙◌, arith}
+use Rattle.std.proofs.Common.{◌≡◌, ℕ, Bool, true, false, List, [], ◌∷◌, length, Option, Some, None, refl, ap, sym, ◌∙◌, arith}
 use Rattle.std.specs.Prelude.{◌==◌, ◌&&◌, ◌||◌, not, nat_lt, is_some, is_none, option_map}
-use Rattle.std.specs.List.{AllByRecursion}
 use Rattle.std.specs.Ordering.{nat_cmp}
-use Rattle.std.proofs.lemmas.Bool.{and_parts}
+use Rattle.std.proofs.lemmas.Bool.{and_parts, cond_both}
 use Rattle.finite_map.specs.FiniteMap.{FiniteMap, get}
 use Rattle.finite_map.proofs.Edits.{numbers, left}
 use Rattle.row_model.specs.declared.ops.Op.{Op}
@@ -33,57 +32,32 @@ abbrev IsBareIf : Option Reply → Type 0
 IsBareIf None = Unit {0}
 IsBareIf (Some r) = IsBare false r
 
-first_bare : (lines : List (Option Reply)) → AllByRecursion IsBareIf lines
-    → IsBareIf (first_line lines)
-first_bare [] all = tt
-first_bare (None ∷ lines) all = first_bare lines all.1
-first_bare (Some r ∷ lines) all = all.0
+next_bare : (o : Option Reply) (lines : List (Option Reply)) → IsBareIf o
+    → IsBareIf (first_line lines) → IsBareIf (first_line (o ∷ lines))
+next_bare None lines bare rest = rest
+next_bare (Some r) lines bare rest = bare
 
-held_bare : (o : Option ℕ) → IsBareIf (option_map reply.HeldBy o)
-held_bare None = tt
-held_bare (Some number) = tt
+option_bare : {X : Type 0} (f : X → Reply) → ((x : X) → IsBare false (f x)) → (o : Option X)
+    → IsBareIf (option_map f o)
+option_bare f bare None = tt
+option_bare f bare (Some x) = bare x
 
-busy_bare : (o : Option Holder) → IsBareIf (option_map busy_reply o)
-busy_bare None = tt
-busy_bare (Some (Session session)) = tt
-busy_bare (Some (UnitHolder number)) = tt
-
-column_bare : (o : Option ℕ) → IsBareIf (option_map reply.NoColumn o)
-column_bare None = tt
-column_bare (Some column) = tt
+busy_bare : (h : Holder) → IsBare false (busy_reply h)
+busy_bare (Session session) = tt
+busy_bare (UnitHolder number) = tt
 
 true_bare : (b : Bool) (r : Reply) → IsBare false r → IsBareIf (where_true b r)
 true_bare true r bare = bare
 true_bare false r bare = tt
 
-abbrev lines : Met → Option Op → List (Option Reply)
-lines met change =
-    option_map reply.HeldBy met.held
-    ∷ option_map busy_reply met.blocker
-    ∷ where_true (is_insert change && is_some met.row) reply.Duplicate
-    ∷ where_true (not (is_insert change) && is_none met.row) reply.NoRow
-    ∷ option_map reply.NoColumn (missing_column change met.row)
-    ∷ where_true met.large reply.TooLarge
-    ∷ []
-
 refusal_bare : (met : Met) (change : Option Op) → IsBareIf (refusal met change)
 refusal_bare met change =
-    first_bare (lines met change) (
-      held_bare met.held,
-      (
-        busy_bare met.blocker,
-        (
-          true_bare (is_insert change && is_some met.row) reply.Duplicate tt,
-          (
-            true_bare (not (is_insert change) && is_none met.row) reply.NoRow tt,
-            (
-              column_bare (missing_column change met.row),
-              (true_bare met.large reply.TooLarge tt, tt),
-            ),
-          ),
-        ),
-      ),
-    )
+    next_bare _ _ (option_bare reply.HeldBy (λ _. tt) met.held)
+    (next_bare _ _ (option_bare busy_reply busy_bare met.blocker)
+    (next_bare _ _ (true_bare (is_insert change && is_some met.row) reply.Duplicate tt)
+    (next_bare _ _ (true_bare (not (is_insert change) && is_none met.row) reply.NoRow tt)
+    (next_bare _ _ (option_bare reply.NoColumn (λ _. tt) (missing_column change met.row))
+    (next_bare _ [] (true_bare met.large reply.TooLarge tt) tt)))))
 
 row_bare : (o : Option (List ℕ)) → IsBare false (row_reply o)
 row_bare None = tt
@@ -97,35 +71,31 @@ pub data Answered (order : List Event) (n m : ModelNode) (o : Option Live) (r : 
       → Answered order n m o r
 
 module _ (order : List Event) (n : ModelNode) (f : Facts order n) (h : Pasts order n) (s : ℕ)
-    (range : (t : Live) → get n.live s ≡ Some t → ProgressInRange n.at) where
+    (range : ProgressInRange n.at) where
+  -- and no new answer waits
   abbrev Told : Option Live → Reply × ModelNode → Type 0
-  Told o x = Answered order n x.1 o x.0
-
-  chosen : (o : Option Live) (b : Bool) (x y : Reply × ModelNode) → (b ≡ true → Told o x)
-      → (b ≡ false → Told o y) → Told o (cond b x y)
-  chosen o true x y one other = one refl
-  chosen o false x y one other = other refl
+  Told o x = Answered order n x.1 o x.0 × (x.1.waiting ≡ n.waiting)
 
   begin_by : (unit : ℕ) (o : Option Live) → Told o (begin_call n s unit o)
-  begin_by unit None = Bare tt
-  begin_by unit (Some t) = Bare tt
+  begin_by unit None = (Bare tt, refl)
+  begin_by unit (Some t) = (Bare tt, refl)
 
   changed_by : (o : Option Live) (due : Bool) (t : Live) → Told o (changed due n s t)
-  changed_by o true t = Bare tt
-  changed_by o false t = Bare tt
+  changed_by o true t = (Bare tt, refl)
+  changed_by o false t = (Bare tt, refl)
 
   accepted_by : (o : Option Live) (row : Option (List ℕ)) (change : Option Op) (t : Live)
       → Told o (accepted n s row change t)
-  accepted_by o row None t = Bare (row_bare row)
+  accepted_by o row None t = (Bare (row_bare row), refl)
   accepted_by o row (Some c) t = changed_by o (is_due t) t
 
   refused_by : (o : Option Live) (why : Option Reply) → IsBareIf why → (x : Reply × ModelNode)
       → Told o x → Told o (statement_by why n x)
   refused_by o None bare x other = other
-  refused_by o (Some why) bare x other = Bare bare
+  refused_by o (Some why) bare x other = (Bare bare, refl)
 
   statement_told : (o : Option Live) (st : Statement) → Told o (statement order n s o st)
-  statement_told None st = Bare tt
+  statement_told None st = (Bare tt, refl)
   statement_told (Some t) st =
       let met = met_by order n s t st in
       refused_by (Some t) (refusal met st.change) (refusal_bare met st.change) _
@@ -138,28 +108,30 @@ module _ (order : List Event) (n : ModelNode) (f : Facts order n) (h : Pasts ord
     commit_none : length t.ops == 0 && t.sent == 0 ≡ true
         → Told (Some t) (reply.Committed 0, end_live n s)
     commit_none none =
-        let parts = and_parts (length t.ops == 0) (t.sent == 0) none in
-        Claims t refl (shut_by order n f h s t there may (is_of t.trx.begin) n.outbox
-        ((h.each s t there).unsent may (equal t.sent 0 parts.1))) (omega arith)
+        let parts = and_parts (length t.ops == 0) (t.sent == 0) none in (
+          Claims t refl (shut_by order n f h s t there may (is_of t.trx.begin) n.outbox
+              ((h.each s t there).unsent may (equal t.sent 0 parts.1))) (omega arith),
+          refl,
+        )
 
     back_by : (due : Option WriteSet) → rollback_due t n.at.serial n.at.committed ≡ due
         → Told (Some t) (reply.RolledBack, end_live (send_any n due) s)
     back_by None due =
-        Claims t refl (Unended (shut_back order n f h s t there may (range t there) None due)) tt
+        (Claims t refl (Unended (shut_back order n f h s t there may range None due)) tt, refl)
     back_by (Some w) due =
-        Claims t refl (Unended (shut_back order n f h s t there may (range t there) (Some w) due))
-        tt
+        (Claims t refl (Unended (shut_back order n f h s t there may range (Some w) due)) tt, refl)
 
   commit_told : (o : Option Live) → get n.live s ≡ o → is_pending o ≡ false
       → Told o (commit_call n s o)
-  commit_told None there idle = Bare tt
+  commit_told None there idle = (Bare tt, refl)
   commit_told (Some t) there idle =
-      chosen (Some t) (length t.ops == 0 && t.sent == 0) (reply.Committed 0, end_live n s)
-      (reply.Pending, send_commit n s t) (commit_none t there idle) (λ _. Bare tt)
+      cond_both (length t.ops == 0 && t.sent == 0) (reply.Committed 0, end_live n s)
+      (reply.Pending, send_commit n s t) (Told (Some t)) (commit_none t there idle)
+      (λ _. (Bare tt, refl))
 
   rollback_told : (o : Option Live) → get n.live s ≡ o → is_pending o ≡ false
       → Told o (rollback_call n s o)
-  rollback_told None there idle = Bare tt
+  rollback_told None there idle = (Bare tt, refl)
   rollback_told (Some t) there idle =
       back_by t there idle (rollback_due t n.at.serial n.at.committed) refl
 
@@ -175,84 +147,21 @@ module _ (order : List Event) (n : ModelNode) (f : Facts order n) (h : Pasts ord
   served_told o (call.Delete id) there idle = statement_told o (deleting id)
   served_told o (call.Share id) there idle = statement_told o (sharing id)
   served_told o (call.Read id) there idle =
-      Bare (row_bare (get (seen_rows (rows_at order n.at.committed) o) id))
+      (Bare (row_bare (get (seen_rows (rows_at order n.at.committed) o) id)), refl)
   served_told o call.Commit there idle = commit_told o there idle
   served_told o call.Rollback there idle = rollback_told o there idle
-  served_told o call.Poll there idle = Bare (poll_by o)
+  served_told o call.Poll there idle = (Bare (poll_by o), refl)
 
   pub asked_told : (o : Option Live) (c : Call) → get n.live s ≡ o → Told o (asked order n s o c)
   asked_told o c there =
-      chosen o (is_pending o) (reply.Pending, n) _ (λ _. Bare tt) (λ idle.
-      chosen o (is_left n.at.phase) (reply.Disconnected, n) _ (λ _. Bare refl) (λ _.
-      chosen o (is_joining n.at.phase || nat_lt n.at.committed n.at.view) (reply.NotSynced, n)
-      (served order n s o c) (λ _. Bare tt) (λ _. served_told o c there idle)))
+      cond_both (is_pending o) (reply.Pending, n) _ (Told o) (λ _. (Bare tt, refl)) (λ idle.
+      cond_both (is_left n.at.phase) (reply.Disconnected, n) _ (Told o) (λ _. (Bare refl, refl))
+      (λ _. cond_both (is_joining n.at.phase || nat_lt n.at.committed n.at.view)
+      (reply.NotSynced, n) (served order n s o c) (Told o) (λ _. (Bare tt, refl))
+      (λ _. served_told o c there idle)))
 
--- ---- no client call leaves a new answer
-module _ (order : List Event) (n : ModelNode) (s : ℕ) where
-  abbrev Same : Reply × ModelNode → Type 0
-  Same x = x.1.waiting ≡ n.waiting
-
-  either : (b : Bool) (x y : Reply × ModelNode) → Same x → Same y → Same (cond b x y)
-  either true x y one other = one
-  either false x y one other = other
-
-  begin_same : (unit : ℕ) (o : Option Live) → Same (begin_call n s unit o)
-  begin_same unit None = refl
-  begin_same unit (Some t) = refl
-
-  changed_same : (due : Bool) (t : Live) → Same (changed due n s t)
-  changed_same true t = refl
-  changed_same false t = refl
-
-  accepted_same : (row : Option (List ℕ)) (change : Option Op) (t : Live)
-      → Same (accepted n s row change t)
-  accepted_same row None t = refl
-  accepted_same row (Some c) t = changed_same (is_due t) t
-
-  refused_same : (why : Option Reply) (x : Reply × ModelNode) → Same x
-      → Same (statement_by why n x)
-  refused_same None x other = other
-  refused_same (Some why) x other = refl
-
-  statement_same : (o : Option Live) (st : Statement) → Same (statement order n s o st)
-  statement_same None st = refl
-  statement_same (Some t) st =
-      let met = met_by order n s t st in
-      refused_same (refusal met st.change) _ (accepted_same met.row st.change (extended t st))
-
-  commit_same : (o : Option Live) → Same (commit_call n s o)
-  commit_same None = refl
-  commit_same (Some t) =
-      either (length t.ops == 0 && t.sent == 0) (reply.Committed 0, end_live n s)
-      (reply.Pending, send_commit n s t) refl refl
-
-  back_same : (due : Option WriteSet) → (end_live (send_any n due) s).waiting ≡ n.waiting
-  back_same None = refl
-  back_same (Some w) = refl
-
-  rollback_same : (o : Option Live) → Same (rollback_call n s o)
-  rollback_same None = refl
-  rollback_same (Some t) = back_same (rollback_due t n.at.serial n.at.committed)
-
-  served_same : (o : Option Live) (c : Call) → Same (served order n s o c)
-  served_same o (call.Begin unit) = begin_same unit o
-  served_same o (call.Insert id row) = statement_same o (inserting id row)
-  served_same o (call.Update id change) = statement_same o (updating id change)
-  served_same o (call.Delete id) = statement_same o (deleting id)
-  served_same o (call.Share id) = statement_same o (sharing id)
-  served_same o (call.Read id) = refl
-  served_same o call.Commit = commit_same o
-  served_same o call.Rollback = rollback_same o
-  served_same o call.Poll = refl
-
-  asked_same : (o : Option Live) (c : Call) → Same (asked order n s o c)
-  asked_same o c =
-      either (is_pending o) (reply.Pending, n) _ refl
-      (either (is_left n.at.phase) (reply.Disconnected, n) _ refl
-      (either (is_joining n.at.phase || nat_lt n.at.committed n.at.view) (reply.NotSynced, n)
-      (served order n s o c) refl (served_same o c)))
-
-  first_waits : (o : Option Reply) (x : Reply × ModelNode) → Same x → (q : ℕ) (r : Reply)
+  -- no client call leaves a new answer
+  first_waits : (o : Option Reply) (x : Reply × ModelNode) → x.1.waiting ≡ n.waiting → (q : ℕ) (r : Reply)
       → get (told_first n s o x).1.waiting q ≡ Some r → get n.waiting q ≡ Some r
   first_waits (Some waiting) x same q r is = (left numbers n.waiting s q r is).there
   first_waits None x same q r is =
@@ -263,4 +172,4 @@ module _ (order : List Event) (n : ModelNode) (s : ℕ) where
   unfolding client
   client_waits c =
       first_waits (get n.waiting s) (asked order n s (get n.live s) c)
-      (asked_same (get n.live s) c)
+      (asked_told (get n.live s) c refl).1

@@ -1,5 +1,5 @@
 -- A transaction whose write set fails, as an event came first, is defeated by that event.
-use Rattle.std.proofs.Common.{◌≡◌, ℕ, suc, ◌+◌, ◌≤◌, ◌<◌, Bool, true, false, cond, List, [], ◌∷◌, length, inl, inr, ◌⊎◌, Some, refl, ap, sym, subst, ◌∙◌, arith, eq-eqb, true≢false}
+use Rattle.std.proofs.Common.{◌≡◌, ℕ, ◌≤◌, ◌<◌, Bool, true, false, cond, List, ◌∷◌, length, inl, inr, ◌⊎◌, Some, refl, ap, sym, subst, ◌∙◌, arith, eq-eqb, true≢false}
 use Rattle.std.specs.Prelude.{◌==◌, ◌||◌, not}
 use Rattle.std.specs.List.{AllByRecursion}
 use Rattle.finite_map.specs.FiniteMap.{get, remove}
@@ -35,6 +35,7 @@ use Rattle.answer_laws.proofs.Pasts.{Pasts}
 use Rattle.answer_laws.proofs.Claims.{Unended, Failed, IsBarred, Defeats}
 use Rattle.answer_laws.proofs.Causes.{fails_behind, not_own, shut_ended}
 use Rattle.answer_laws.proofs.Prevailing.{conflict_earlier, held_earlier, conflict_is, held_is}
+use Rattle.std.proofs.lemmas.Bool.{or_parts, or_right, true_from_ne_false, not_from_false}
 
 -- ---- what the write set that waits for its verdict says of its transaction
 record IsHead (s : FoldState) (t : Live) (w : WriteSet) : Type 0 where
@@ -43,20 +44,15 @@ record IsHead (s : FoldState) (t : Live) (w : WriteSet) : Type 0 where
   kind : (is_uncommitted t.status ≡ true) ⊎ (is_end w ≡ true)
 
 fragment_start : (w : WriteSet) (b : Bool) → w.flags ≡ cond b 1 0 → is_start w ≡ b
-fragment_start w true flags = ap (λ f. f == 1 || f == 3) flags
-fragment_start w false flags = ap (λ f. f == 1 || f == 3) flags
+fragment_start w b flags = grind arith
 
 commit_start : (w : WriteSet) (b : Bool) → w.flags ≡ cond b 3 2
     → (is_start w ≡ b) × (is_end w ≡ true)
-commit_start w true flags =
-    (ap (λ f. f == 1 || f == 3) flags, ap (λ f. f == 2 || f == 3) flags)
-commit_start w false flags =
-    (ap (λ f. f == 1 || f == 3) flags, ap (λ f. f == 2 || f == 3) flags)
+commit_start w b flags = (grind arith, grind arith)
 
 first_alone : (P : WriteSet → Type 0) (failed : Type 0) (mine left : List WriteSet) (w : WriteSet)
     → mine ≡ w ∷ left → Alone P failed mine → P w
 first_alone P failed mine left w same (One x is h) =
-    let both : x ∷ [] ≡ w ∷ left = sym is ∙ same in
     let head : x ≡ w = cc in
     subst P head h
 first_alone P failed mine left w same (Lost none h) = cc
@@ -73,7 +69,6 @@ module _ (order : List Event) (p c : ℕ) (t : Live) (mine left : List WriteSet)
 
   head_by : (st : Status) → t.status ≡ st → StandsBy order p c mine t st → is_sent st ≡ true
       → IsHead (state_at order c) t w
-  head_by status.Running now stands waits = absurd (true≢false (sym waits))
   head_by status.FragmentSent now stands waits =
       let h = first_alone (IsFragmentOf (state_at order c) t) (HasFailed order c t.trx) mine left w
       same stands in
@@ -83,16 +78,10 @@ module _ (order : List Event) (p c : ℕ) (t : Live) (mine left : List WriteSet)
         kind = inl (ap is_uncommitted now);
       }
   head_by status.CommitSent now stands waits = commit_head stands
-  head_by (status.Certified k) now stands waits = absurd (true≢false (sym waits))
   head_by status.KilledSent now stands waits = commit_head stands
-  head_by (status.Replaying k) now stands waits = absurd (true≢false (sym waits))
+  head_by _ now stands waits = absurd (true≢false (sym waits))
 
 -- it stands where its transaction goes on
-second_false : (a b : Bool) → not a || not b ≡ false → b ≡ true
-second_false true true h = refl
-second_false true false h = cc
-second_false false b h = cc
-
 count_by : (s : FoldState) (w : WriteSet) (b : Bool) → w.fragment == 0 ≡ b
     → cond b (is_open s (trx_of w)) (not (is_open s (trx_of w))
     || not (w.fragment == length (fragments_of s (trx_of w)))) ≡ false
@@ -100,8 +89,8 @@ count_by : (s : FoldState) (w : WriteSet) (b : Bool) → w.fragment == 0 ≡ b
 count_by s w true first placed =
     ap length (none_there (get s.open_trx (trx_of w)) placed) ∙ sym (equal w.fragment 0 first)
 count_by s w false more placed =
-    sym (equal w.fragment (length (fragments_of s (trx_of w)))
-    (second_false (is_open s (trx_of w)) _ placed))
+    sym (equal w.fragment _ (true_from_ne_false _ (λ no. true≢false
+    (sym (not_from_false _ no) ∙ (or_parts _ _ placed).1))))
 
 count_placed : (s : FoldState) (w : WriteSet) → is_start w ≡ (w.fragment == 0)
     → is_broken s w ≡ false → length (fragments_of s (trx_of w)) ≡ w.fragment
@@ -112,15 +101,11 @@ count_placed s w start placed =
     ∙ out_not s w placed)
 
 -- what touches its last write set touches the whole transaction
-true_right : (a b : Bool) → b ≡ true → a || b ≡ true
-true_right true b h = refl
-true_right false b h = h
-
 touches_whole : (x all front last : Keys) → all ≡ union front last → touches x last ≡ true
     → touches x all ≡ true
 touches_whole x all front last is h =
     touches-symm x all ∙ ap (λ ks. touches ks x) is ∙ touches-union front last x
-    ∙ true_right (touches front x) (touches last x) (touches-symm last x ∙ h)
+    ∙ or_right (touches front x) (touches last x) (touches-symm last x ∙ h)
 
 module _ (order : List Event) (n : ModelNode) (f : Facts order n) (stage : Stage order n)
     (h : Pasts order n) (s : ℕ) (t : Live) (body : List ℕ) (w : WriteSet)
@@ -185,9 +170,6 @@ module _ (order : List Event) (n : ModelNode) (f : Facts order n) (stage : Stage
   barred_by fails (inl may) = Unended (shut_ended order n f h s t judged.there may)
   barred_by fails (inr ends) = Failed c w home at ends fails
 
-  first_below : (a b : ℕ) → a + b ≤ 1 → a ≤ 1
-  first_below a b most = omega (arith, most)
-
   -- a passed commit is another one's
   other_by : (v : ℕ) → v ≤ c → (item : CommitItem) → commit_at order v ≡ Some item
       → (is_uncommitted t.status ≡ true) ⊎ (is_end w ≡ true) → item.trx ≡ t.trx → ⊥
@@ -202,7 +184,7 @@ module _ (order : List Event) (n : ModelNode) (f : Facts order n) (stage : Stage
       (end_is t.trx.begin made.set
       (ap (λ (x : TrxId). x.begin) (made.write.of_trx ∙ same)) made.ends)
       judged.next judged.is (end_is t.trx.begin w (sym judged.begin) ends)
-      (first_below _ _ (h.once t.trx.begin)) in
+      (omega (arith, h.once t.trx.begin)) in
       omega (arith, here, made.number, within)
 
   conflict_prevails : OrderedFacts order n → (v : ℕ) → verdict_next order n w ≡ verdict.Conflict v
@@ -221,12 +203,12 @@ module _ (order : List Event) (n : ModelNode) (f : Facts order n) (stage : Stage
   held_prevails o v is =
       let found = held_is (state_at order c) m w v is in
       let e = held_earlier order c v (trx_of w) w.keys found.0 in
-      let number : v ≡ suc e.at.before = e.number ∙ e.at.number in (
-        ByFragment e.at.before e.other e.at.set number e.at.write e.at.passes e.at.no_end
-            e.at.no_rollback (λ same. e.differs (same ∙ sym of_trx))
-            (touches_whole e.at.set.keys t.keys _ w.keys (whole o found.1)
-            (ap (λ k. touches k w.keys) e.at.keys ∙ e.touching)),
-        omega (arith, number, e.at.within),
+      let at = e.at.0 in (
+        ByFragment at.before e.other at.set (e.number ∙ at.number) at.write at.passes at.no_end
+            at.no_rollback (λ same. e.differs (same ∙ sym of_trx))
+            (touches_whole at.set.keys t.keys _ w.keys (whole o found.1)
+            (ap (λ k. touches k w.keys) at.keys ∙ e.touching)),
+        omega (arith, e.number, e.at.1),
       )
 
   prevails_by : OrderedFacts order n → (v : ℕ) (x : Verdict) → CameFirst v x

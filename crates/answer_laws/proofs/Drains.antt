@@ -1,5 +1,5 @@
 -- The steps of a node by itself, and a drain, leave right answers waiting.
-use Rattle.std.proofs.Common.{ℕ, zero, suc, ◌+◌, ◌-◌, ◌≤◌, ◌<◌, ◌^◌, true, List, length, None, sym, subst, arith}
+use Rattle.std.proofs.Common.{ℕ, zero, suc, ◌+◌, ◌-◌, ◌≤◌, ◌<◌, ◌^◌, true, List, length, sym, subst, arith}
 use Rattle.std.specs.Ordering.{nat_cmp}
 use Rattle.finite_map.specs.FiniteMap.{FiniteMap, len}
 use Rattle.order_event.specs.declared.event.Event.{Event}
@@ -12,9 +12,10 @@ use Rattle.node_laws.proofs.CertifyMoves.{certify_moves}
 use Rattle.node_laws.proofs.UnitMoves.{CanTakeBack, start_moves, finish_moves}
 use Rattle.node_laws.proofs.AdvanceMoves.{advance_moves}
 use Rattle.answer_laws.specs.Answers.{Asker}
-use Rattle.answer_laws.proofs.Telling.{Stays, Waits, Tells, still_holds, still_waits}
+use Rattle.answer_laws.proofs.Telling.{Stays, Waits, Tells, still_waits, still_kept}
 use Rattle.answer_laws.proofs.NodeSteps.{take_tells, certify_tells, finish_tells, advance_tells}
 use Rattle.answer_laws.proofs.Kills.{start_waits}
+use Rattle.course_laws.specs.Courses.{Course}
 
 -- a node whose answers that wait are right, with its numbers in range
 pub record OnWay (former : List ℕ) (order : List Event) (member most : ℕ)
@@ -24,10 +25,13 @@ pub record OnWay (former : List ℕ) (order : List Event) (member most : ℕ)
   pub serial : n.at.serial + len n.live ≤ most
   pub begin : n.at.begin ≤ most
 
-module _ (former : List ℕ) (order : List Event) (member most : ℕ) (small : member < 2 ^ 32)
-    (few : most ≤ 2 ^ 63) (short : length order ≤ 2 ^ 63) (askers : FiniteMap nat_cmp Asker) where
+module _ (most : ℕ) (few : most ≤ 2 ^ 63) (c : Course) (askers : FiniteMap nat_cmp Asker)
+    (small : c.node.at.member < 2 ^ 32) (short : length c.order ≤ 2 ^ 63) where
+  abbrev order : List Event
+  order = c.order
+
   abbrev Way : ModelNode → Type 0
-  Way n = OnWay former order member most askers n
+  Way n = OnWay c.former order c.node.at.member most askers n
 
   can : (n : ModelNode) → Way n → CanTakeBack n
   can n h =
@@ -39,10 +43,10 @@ module _ (former : List ℕ) (order : List Event) (member most : ℕ) (small : m
       }
 
   by_row : (n m : ModelNode) → Way n → Reaches order (Unit {0}) true n 0 m
-      → Waits former order m askers → Way m
+      → Waits c.former order m askers → Way m
   by_row n m h row waits =
       let grows = reach_grows order (Unit {0}) true n 0 m row in record {
-        stays = (still_holds former order member (Unit {0}) tt None n m row h.stays tt).0;
+        stays = (still_kept c.former order c.node.at.member (Unit {0}) tt n m row h.stays).stays;
         waits = waits;
         serial = omega (arith, h.serial, grows.serial);
         begin = omega (arith, h.begin, grows.begin);
@@ -52,7 +56,7 @@ module _ (former : List ℕ) (order : List Event) (member most : ℕ) (small : m
       → Way m
   by_tells n m h row tells =
       by_row n m h row
-      (still_waits former order member (Unit {0}) tt n m row h.stays askers h.waits tells)
+      (still_waits c.former order c.node.at.member (Unit {0}) tt n m row h.stays askers h.waits tells)
 
   pub take_way : (n : ModelNode) → Way n → Way (take_step order n).1
   take_way n h = by_tells n _ h (take_moves order (Unit {0}) true n) (take_tells order n)
@@ -65,7 +69,7 @@ module _ (former : List ℕ) (order : List Event) (member most : ℕ) (small : m
   pub start_way : (number : ℕ) (n : ModelNode) → Way n → Way (start_step order n number).1
   start_way number n h =
       by_row n _ h (start_moves order (Unit {0}) n number (λ _ _. can n h))
-      (start_waits former order member askers n h.stays h.waits (can n h) number)
+      (start_waits c.former order c.node.at.member askers n h.stays h.waits (can n h) number)
 
   pub finish_way : (number : ℕ) (n : ModelNode) → Way n → Way (finish_step n number).1
   finish_way number n h =

@@ -1,14 +1,12 @@
 -- A claim that is kept to the end makes the answer right.
-use Rattle.std.proofs.Common.{◌≡◌, ℕ, zero, suc, ◌+◌, ◌≤◌, Bool, true, List, length, Some, ap, sym, subst, ◌∙◌, arith}
+use Rattle.std.proofs.Common.{◌≡◌, ℕ, zero, suc, ◌≤◌, Bool, true, List, length, Some, ap, sym, subst, ◌∙◌, arith}
 use Rattle.std.specs.Prelude.{slice_get}
-use Rattle.std.proofs.lemmas.Option.{same_Some}
 use Rattle.wsrep_base.specs.declared.ids.TrxId.{TrxId}
 use Rattle.row_model.specs.declared.calls.Reply.{Reply}
 use Rattle.row_model.specs.declared.calls.Reply.TheVariants as reply
 use Rattle.order_event.specs.declared.event.Event.{Event}
 use Rattle.order_event.specs.declared.event.Event.TheVariants as event
 use Rattle.write_set.specs.declared.write_set.WriteSet.{WriteSet}
-use Rattle.write_set.specs.Reading.{decoded}
 use Rattle.cert_meaning.specs.declared.items.CommitItem.{CommitItem}
 use Rattle.cert_meaning.specs.Verdict.{is_end}
 use Rattle.node_meaning.specs.Node.{ModelNode}
@@ -19,19 +17,12 @@ use Rattle.answer_laws.specs.Counting.{is_end_of}
 use Rattle.answer_laws.proofs.Counted.{one_there, two_there, end_is}
 use Rattle.answer_laws.proofs.Made.{IsMadeAt, made_at}
 use Rattle.answer_laws.proofs.Pasts.{Pasts, not_there}
-use Rattle.answer_laws.proofs.PastsMoved.{body_of}
 use Rattle.answer_laws.proofs.Claims.{IsBarred, Unended, Failed, Stands, Claim}
 
 -- an answer names a number that is not above what is committed
 abbrev pub IsWithin : ℕ → Reply → Type 0
 IsWithin p (reply.Committed n) = n ≤ p
 IsWithin p answer = Unit {0}
-
-first_below : (a b : ℕ) → a + b ≤ 1 → a ≤ 1
-first_below a b most = omega (arith, most)
-
-none_first : (a b : ℕ) → a + b ≡ 0 → 1 ≤ a → ⊥
-none_first a b none one = omega (arith, none, one)
 
 module _ (order : List Event) (n : ModelNode) (f : Facts order n) (h : Pasts order n) where
   abbrev m : ℕ
@@ -55,14 +46,11 @@ module _ (order : List Event) (n : ModelNode) (f : Facts order n) (h : Pasts ord
       two_there (is_end_of trx.begin) m order j k one.body other.body v w
       (at_home trx j v home one) one.is (ends_it trx j v one ends)
       (at_home trx k w home other) other.is (ends_it trx k w other also)
-      (first_below _ _ (h.once trx.begin))
+      (omega (arith, h.once trx.begin))
 
   write_same : (trx : TrxId) (k : ℕ) (v w : WriteSet) → IsWriteAt order k trx v
       → IsWriteAt order k trx w → v ≡ w
-  write_same trx k v w one other =
-      let events = same_Some (event.Write trx.member one.body)
-      (event.Write trx.member other.body) (sym one.there ∙ other.there) in
-      same_Some v w (sym one.is ∙ ap decoded (ap body_of events) ∙ other.is)
+  write_same trx k v w one other = cc
 
   of_commit : (trx : TrxId) (k : ℕ) (c : CommitItem) → c.trx ≡ trx → (made : IsMadeAt order k c)
       → IsWriteAt order made.before trx made.set
@@ -73,10 +61,10 @@ module _ (order : List Event) (n : ModelNode) (f : Facts order n) (h : Pasts ord
   never trx (Unended shut) k c inside there is =
       let made = made_at order k c inside there in
       let at = of_commit trx k c is made in
-      none_first _ _ shut.none
-      (one_there (is_end_of trx.begin) m order made.before at.body made.set
+      let one = one_there (is_end_of trx.begin) m order made.before at.body made.set
       (at_home trx made.before made.set shut.home at) at.is
-      (ends_it trx made.before made.set at made.ends))
+      (ends_it trx made.before made.set at made.ends) in
+      omega (arith, one, shut.none)
   never trx (Failed before w home at ends fails) k c inside there is =
       let made = made_at order k c inside there in
       let own = of_commit trx k c is made in

@@ -1,6 +1,6 @@
 -- Answers of transactions of members that a node had before: each stands with the node as it was
 -- when it joined again, of whose member nothing is ordered any more.
-use Rattle.std.proofs.Common.{◌≡◌, ℕ, ◌≤◌, ◌<◌, Bool, true, false, cond, List, [], ◌∷◌, ◌++◌, Some, None, refl, ap, sym, subst, arith, true≢false, eq-eqb}
+use Rattle.std.proofs.Common.{◌≡◌, ℕ, ◌≤◌, ◌<◌, Bool, true, List, [], ◌∷◌, ◌++◌, None, refl, ap, sym, subst, arith, true≢false, eq-eqb, inl, inr}
 use Rattle.std.specs.Prelude.{◌==◌, ◌||◌, map}
 use Rattle.std.specs.List.{AllByRecursion, list_any}
 use Rattle.std.specs.Ordering.{nat_cmp}
@@ -8,11 +8,8 @@ use Rattle.finite_map.specs.FiniteMap.{FiniteMap}
 use Rattle.order_event.specs.declared.event.Event.{Event}
 use Rattle.order_event.specs.declared.event.Event.TheVariants as event
 use Rattle.order_event.specs.declared.event.Message.{Message}
-use Rattle.order_event.specs.declared.event.Message.TheVariants as message
 use Rattle.group_order.specs.Order.{event_of}
 use Rattle.row_model.specs.declared.calls.Reply.{Reply}
-use Rattle.write_set.specs.declared.write_set.WriteSet.{WriteSet}
-use Rattle.write_set.specs.Reading.{decoded}
 use Rattle.client_trx.specs.Live.{Live}
 use Rattle.node_meaning.specs.Node.{ModelNode}
 use Rattle.node_meaning.specs.Facts.{Facts}
@@ -22,12 +19,11 @@ use Rattle.node_laws.proofs.SetLists.{equal, unequal}
 use Rattle.course_laws.specs.Courses.{IsOfOthers}
 use Rattle.course_laws.proofs.Growing.{AreSilent, others_silent}
 use Rattle.answer_laws.specs.Answers.{Asker, IsRight}
-use Rattle.answer_laws.specs.Counting.{one_if, event_count, count_ordered}
-use Rattle.answer_laws.proofs.Counted.{both_same, ordered-append}
 use Rattle.answer_laws.proofs.Pasts.{Pasts}
 use Rattle.answer_laws.proofs.Claims.{ClaimOf, Claim}
-use Rattle.answer_laws.proofs.Grown.{SameSent, past_grown, claim_grown, sum_others}
+use Rattle.answer_laws.proofs.Grown.{past_grown, claim_grown, silent_same}
 use Rattle.answer_laws.proofs.Ending.{IsWithin, claim_right}
+use Rattle.std.proofs.lemmas.Bool.{or_cases, or_right}
 
 -- what an answer claims of a transaction of a former member, on a node that has committed so many
 -- events: the node as it was with that member claims it, and nothing of it waits to be ordered
@@ -54,38 +50,10 @@ Claimed former order n a r =
     ClaimedOf former order n.at.member n.at.begin n.at.committed n.outbox n.live a r
 
 -- ---- events of which none is a member's
-none_by : (m : Message) (b : Bool) → cond b (Some m) None ≡ None → b ≡ false
-none_by m true is = cc
-none_by m false is = refl
-
-silent_count : (test : WriteSet → Bool) (member : ℕ) (e : Event) → message_of member e ≡ None
-    → event_count test member e ≡ 0
-silent_count test member (event.Write sender body) is =
-    ap (λ b. cond b (one_if test (decoded body)) 0)
-    (none_by (message.Write body) (sender == member) is)
-silent_count test member (event.View version members) is = refl
-silent_count test member (event.Report sender number) is = refl
-
-pub ordered-silent : (test : WriteSet → Bool) (member : ℕ) (events : List Event)
-    → AreSilent member events → count_ordered test member events ≡ 0
-ordered-silent test member [] all = refl
-ordered-silent test member (e ∷ events) all =
-    both_same _ _ 0 0 (silent_count test member e all.0)
-    (ordered-silent test member events all.1)
-
-pub silent_same : (order : List Event) (member : ℕ) (outbox : List Message) (events : List Event)
-    → AreSilent member events → SameSent order outbox (order ++ events) outbox member
-silent_same order member outbox events all test =
-    sum_others _ (count_ordered test member order) _ _
-    (ordered-append test member order events) (ordered-silent test member events all)
-
 -- another member's messages
 other_message : (member other : ℕ) → (other ≡ member → ⊥) → (m : Message)
     → message_of member (event_of other m) ≡ None
-other_message member other differs (message.Write body) =
-    ap (λ b. cond b (Some (message.Write body)) None) (unequal other member differs)
-other_message member other differs (message.Report number) =
-    ap (λ b. cond b (Some (message.Report number)) None) (unequal other member differs)
+other_message member other differs m = grind (arith, unequal other member differs)
 
 pub other_silent : (member other : ℕ) → (other ≡ member → ⊥) → (front : List Message)
     → AreSilent member (map (event_of other) front)
@@ -103,28 +71,25 @@ AllSilent former events =
 abbrev pub AreApart : List ℕ → ℕ → Type 0
 AreApart former member = (k : ℕ) → list_any (λ j. j == k) former ≡ true → member ≡ k → ⊥
 
-either : {X : Type 0} (m k : ℕ) (others b : Bool) → m == k ≡ b → b || others ≡ true
-    → (m == k ≡ true → X) → (others ≡ true → X) → X
-either m k others true same had first later = first same
-either m k others false differs had first later = later had
-
-below_apart : (member m k : ℕ) → m == k ≡ true → m < member → member ≡ k → ⊥
-below_apart member m k same below here =
-    let is = equal m k same in omega (arith, is, below, here)
-
 pub all_apart : (former : List ℕ) (member : ℕ) → AllByRecursion (λ k. k < member) former
     → AreApart former member
-all_apart [] member all k had = absurd (true≢false (sym had))
-all_apart (m ∷ former) member all k had = either m k _ (m == k) refl had
-    (λ same. below_apart member m k same all.0) (all_apart former member all.1 k)
+all_apart [] member all k had here = absurd (true≢false (sym had))
+all_apart (m ∷ former) member all k had here =
+    elim (or_cases (m == k) (list_any (λ j. j == k) former) had) [
+      | inl same ↦ let is = equal m k same in omega (arith, is, all.0, here)
+      | inr later ↦ all_apart former member all.1 k later here
+    ]
 
 pub others_silent_all : (former : List ℕ) (events : List Event)
     → AllByRecursion (λ k. AllByRecursion (IsOfOthers k true) events) former
     → AllSilent former events
 others_silent_all [] events all k had = absurd (true≢false (sym had))
-others_silent_all (m ∷ former) events all k had = either m k _ (m == k) refl had
-    (λ same. subst (λ j. AreSilent j events) (equal m k same) (others_silent m true events all.0))
-    (others_silent_all former events all.1 k)
+others_silent_all (m ∷ former) events all k had =
+    elim (or_cases (m == k) (list_any (λ j. j == k) former) had) [
+      | inl same ↦
+          subst (λ j. AreSilent j events) (equal m k same) (others_silent m true events all.0)
+      | inr later ↦ others_silent_all former events all.1 k later
+    ]
 
 pub own_silent_all : (former : List ℕ) (member : ℕ) → AreApart former member
     → (front : List Message) → AllSilent former (map (event_of member) front)
@@ -165,15 +130,10 @@ module _ (former : List ℕ) (order : List Event) (a : Asker) (r : Reply) where
       }
 
   -- the node has one more former member
-  later_had : (m k : ℕ) (b : Bool) → list_any (λ j. j == k) former ≡ true
-      → b || list_any (λ j. j == k) former ≡ true
-  later_had m k true had = refl
-  later_had m k false had = had
-
   pub before_joined : (m p : ℕ) → Before former order p a r → Before (m ∷ former) order p a r
   before_joined m p h = record {
     old = h.old;
-    had = later_had m h.old.at.member (m == h.old.at.member) h.had;
+    had = or_right (m == h.old.at.member) _ h.had;
     facts = h.facts;
     past = h.past;
     none_waits = h.none_waits;

@@ -1,8 +1,7 @@
 -- The order grows by events of others, or by the front of the node's outbox: what the node has
 -- sent of each transaction is the same, and claims stay.
-use Rattle.std.proofs.Common.{◌≡◌, ℕ, zero, suc, ◌+◌, ◌≤◌, ◌<◌, Bool, true, false, List, [], ◌∷◌, ◌++◌, length, refl, ap, sym, subst, ◌∙◌, arith, length-append, ltb-true, ltb-false}
-use Rattle.std.specs.Prelude.{nat_lt, slice_get, map}
-use Rattle.std.specs.List.{AllByRecursion}
+use Rattle.std.proofs.Common.{◌≡◌, ℕ, zero, suc, ◌≤◌, ◌<◌, Bool, List, ◌++◌, length, ap, sym, subst, ◌∙◌, arith, length-append}
+use Rattle.std.specs.Prelude.{slice_get, map}
 use Rattle.std.proofs.lemmas.Option.{slice_get_within}
 use Rattle.row_model.specs.declared.calls.Reply.{Reply}
 use Rattle.row_model.specs.declared.calls.Reply.TheVariants as reply
@@ -20,12 +19,11 @@ use Rattle.client_trx.specs.Live.{Live}
 use Rattle.node_meaning.specs.Node.{ModelNode}
 use Rattle.node_meaning.specs.Units.{ops_at, ops_by}
 use Rattle.node_meaning.specs.Facts.{Facts, commit_at}
-use Rattle.course_laws.specs.Courses.{IsOfOthers}
 use Rattle.course_laws.proofs.PendingSets.{within_order}
-use Rattle.course_laws.proofs.Growing.{front_get}
+use Rattle.course_laws.proofs.Growing.{front_get, AreSilent}
 use Rattle.answer_laws.specs.Answers.{Asker, IsWriteAt, PassesAt, Prevailed, ByCommit, ByFragment, FailsBehind}
-use Rattle.answer_laws.specs.Counting.{count_ordered, count_waiting, count_sent}
-use Rattle.answer_laws.proofs.Counted.{ordered-append, waiting-append, ordered-own, ordered-others}
+use Rattle.answer_laws.specs.Counting.{count_waiting, count_sent}
+use Rattle.answer_laws.proofs.Counted.{ordered-append, waiting-append, ordered-own, ordered-silent}
 use Rattle.answer_laws.proofs.Pasts.{HasPast, Past, Pasts}
 use Rattle.answer_laws.proofs.Claims.{IsShut, IsBarred, Unended, Failed, Defeats, ClaimOf, Claim}
 
@@ -35,36 +33,22 @@ SameSent order outbox longer back member =
     (test : WriteSet → Bool)
     → count_sent test member longer back ≡ count_sent test member order outbox
 
-sum_own : (a b c d e : ℕ) → a ≡ b + c → c ≡ d → a + e ≡ b + (d + e)
-sum_own a b c d e one two = omega (arith, one, two)
-
-pub sum_others : (a b c e : ℕ) → a ≡ b + c → c ≡ 0 → a + e ≡ b + e
-sum_others a b c e one none = omega (arith, one, none)
-
 pub own_same : (order : List Event) (member : ℕ) (outbox front back : List Message)
     → outbox ≡ front ++ back
     → SameSent order outbox (order ++ map (event_of member) front) back member
 own_same order member outbox front back is test =
-    sum_own _ (count_ordered test member order) _ (count_waiting test front) _
-    (ordered-append test member order (map (event_of member) front))
-    (ordered-own test member front)
-    ∙ ap (λ k. count_ordered test member order + k)
-    (sym (ap (count_waiting test) is ∙ waiting-append test front back))
+    omega (
+      arith,
+      ordered-append test member order (map (event_of member) front),
+      ordered-own test member front,
+      ap (count_waiting test) is ∙ waiting-append test front back,
+    )
 
-pub others_same : (order : List Event) (member : ℕ) (left : Bool) (outbox : List Message)
-    (events : List Event) → AllByRecursion (IsOfOthers member left) events
-    → SameSent order outbox (order ++ events) outbox member
-others_same order member left outbox events all test =
-    sum_others _ (count_ordered test member order) _ _
-    (ordered-append test member order events) (ordered-others test member left events all)
-
--- a view that the node leaves behind is no message
-pub view_same : (order : List Event) (member version : ℕ) (members : List ℕ)
-    (outbox : List Message)
-    → SameSent order outbox (order ++ event.View version members ∷ []) outbox member
-view_same order member version members outbox test =
-    sum_others _ (count_ordered test member order) _ _
-    (ordered-append test member order (event.View version members ∷ [])) refl
+-- of events of which none is the member's
+pub silent_same : (order : List Event) (member : ℕ) (outbox : List Message) (events : List Event)
+    → AreSilent member events → SameSent order outbox (order ++ events) outbox member
+silent_same order member outbox events all test =
+    omega (arith, ordered-append test member order events, ordered-silent test member events all)
 
 module _ (order more : List Event) where
   at_before : (before : ℕ) (trx : TrxId) (w : WriteSet) → before < length order
@@ -118,15 +102,11 @@ module _ (order more : List Event) where
 
   behind_later : (v : ℕ) (trx : TrxId) → v ≤ length order → FailsBehind order v trx
       → FailsBehind (order ++ more) v trx
-  behind_later v trx inside h before w at fails = by (nat_lt before (length order)) refl
-    where
-      by : (b : Bool) → nat_lt before (length order) ≡ b → v ≤ before
-      by true below =
-          let first = ltb-true before (length order) below in
-          h before w (at_before before trx w first at)
-          (λ pass. fails (passes_later before w (omega (arith, first)) pass))
-      by false above =
-          let behind = ltb-false before (length order) above in omega (arith, behind, inside)
+  behind_later v trx inside h before w at fails =
+      let first : before < length order → v ≤ before = λ below.
+      h before w (at_before before trx w below at)
+      (λ pass. fails (passes_later before w (omega (arith, below)) pass)) in
+      grind (arith, first, inside)
 
   module _ (n : ModelNode) (f : Facts order n) (back : List Message)
       (same : SameSent order n.outbox (order ++ more) back n.at.member) where

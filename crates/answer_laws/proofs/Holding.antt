@@ -1,9 +1,8 @@
 -- What happens to a node in its course keeps what it has sent, and what an answer claims.
-use Rattle.std.proofs.Common.{◌≡◌, ℕ, ◌+◌, ◌≤◌, ◌^◌, Bool, true, false, cond, List, [], ◌∷◌, ◌++◌, length, Option, Some, None, refl, ap, sym, subst, ◌∙◌, arith, append-nil, ltb-false, true≢false}
+use Rattle.std.proofs.Common.{◌≡◌, ℕ, ◌+◌, ◌≤◌, ◌^◌, Bool, true, false, cond, List, [], ◌∷◌, ◌++◌, length, None, refl, ap, sym, subst, ◌∙◌, arith, append-nil, ltb-false, true≢false, inl, inr}
 use Rattle.std.specs.Prelude.{◌||◌, ◌&&◌, ◌==◌, map, nat_lt}
-use Rattle.std.proofs.lemmas.Bool.{and_parts}
+use Rattle.std.proofs.lemmas.Bool.{and_parts, cases_Bool, cond_both, or_parts}
 use Rattle.row_model.specs.declared.calls.Call.{Call}
-use Rattle.row_model.specs.declared.calls.Reply.{Reply}
 use Rattle.order_event.specs.declared.event.Event.{Event}
 use Rattle.order_event.specs.declared.event.Event.TheVariants as event
 use Rattle.order_event.specs.declared.event.Message.{Message}
@@ -30,35 +29,23 @@ use Rattle.course_laws.specs.Kept.{CourseKept}
 use Rattle.course_laws.proofs.Following.{client_still}
 use Rattle.course_laws.proofs.CourseLaws.{own_kept}
 use Rattle.course_laws.proofs.KeptLaws.{kept_laws}
-use Rattle.answer_laws.specs.Answers.{Asker}
 use Rattle.answer_laws.proofs.Pasts.{Pasts}
-use Rattle.answer_laws.proofs.Grown.{SameSent, own_same, others_same, view_same, past_grown, claim_grown}
-use Rattle.answer_laws.proofs.Former.{Claimed, Own, Old, AllSilent, AreApart, all_apart, others_silent_all, own_silent_all, view_silent_all, before_grown}
-use Rattle.answer_laws.proofs.Telling.{Stays, Holds, still_holds, paid_holds}
-use Rattle.answer_laws.proofs.Leaving.{left_past, left_holds}
-use Rattle.answer_laws.proofs.Joining.{IsIdle, joined_past, joined_holds, events_holds, snapshot_past, snapshot_holds}
-use Rattle.answer_laws.proofs.NodeSteps.{report_by, status_same}
+use Rattle.answer_laws.proofs.Grown.{SameSent, own_same, past_grown, claim_grown, silent_same}
+use Rattle.answer_laws.proofs.Former.{Own, Old, AllSilent, AreApart, all_apart, others_silent_all, own_silent_all, view_silent_all, before_grown}
+use Rattle.answer_laws.proofs.Telling.{Stays, Still, still_kept, paid_kept}
+use Rattle.answer_laws.proofs.Leaving.{left_past, left_claimed}
+use Rattle.answer_laws.proofs.Joining.{IsIdle, joined_past, snapshot_past, joined_claimed, snapshot_claimed}
+use Rattle.answer_laws.proofs.NodeSteps.{status_same}
+use Rattle.course_laws.proofs.Growing.{others_silent}
+use Rattle.order_event.specs.declared.step.Answer.{Answer}
 
 -- ---- over an order that grows by nothing of a former member
 module _ (former : List ℕ) (order more : List Event) (silent : AllSilent former more)
     (n : ModelNode) (f : Facts order n) (back : List Message)
     (same : SameSent order n.outbox (order ++ more) back n.at.member) where
-  pub claimed_grown : (a : Asker) (r : Reply) → Claimed former order n a r
-      → Claimed former (order ++ more) (record n { outbox = back }) a r
+  pub claimed_grown : Still former order n former (order ++ more) (record n { outbox = back })
   claimed_grown a r (Own h) = Own (claim_grown order more n f back same a r h)
   claimed_grown a r (Old h) = Old (before_grown former order a r n.at.committed more silent h)
-
-  holds_grown : (o : Option (Asker × Reply)) → Holds former order n o
-      → Holds former (order ++ more) (record n { outbox = back }) o
-  holds_grown None h = tt
-  holds_grown (Some x) h = claimed_grown x.0 x.1 h
-
--- which of its messages are ordered and not taken says nothing
-holds_ordered : (former : List ℕ) (order : List Event) (n : ModelNode) (front back : List Message)
-    (o : Option (Asker × Reply)) → Holds former order (record n { outbox = back }) o
-    → Holds former order (with_ordered n front back) o
-holds_ordered former order n front back None h = tt
-holds_ordered former order n front back (Some x) h = h
 
 -- ---- what is known of the node
 module _ (most : ℕ) (few : most ≤ 2 ^ 63) (c : Course) (kept : CourseKept most c) where
@@ -110,14 +97,9 @@ module _ (most : ℕ) (few : most ≤ 2 ^ 63) (c : Course) (kept : CourseKept mo
       → IsIdle c.node
   none_live left all = laws.idle left all
 
--- what was sent, and the claim
-abbrev pub Now : Option (Asker × Reply) → Course → Type 0
-Now claim c = Pasts c.order c.node × Holds c.former c.order c.node claim
-
 -- ---- what happens keeps them
 module _ (most : ℕ) (few : most ≤ 2 ^ 63) (c : Course) (kept : CourseKept most c)
-    (past : Pasts c.order c.node) (claim : Option (Asker × Reply))
-    (h : Holds c.former c.order c.node claim) where
+    (past : Pasts c.order c.node) where
   abbrev order : List Event
   order = c.order
 
@@ -128,7 +110,14 @@ module _ (most : ℕ) (few : most ≤ 2 ^ 63) (c : Course) (kept : CourseKept mo
   former = c.former
 
   abbrev After : List Event → ModelNode → Type 0
-  After longer m = Pasts longer m × Holds former longer m claim
+  After longer m = Pasts longer m × Still former order n former longer m
+
+  -- what was sent, and what was claimed
+  abbrev Now : Course → Type 0
+  Now d = Pasts d.order d.node × Still former order n d.former d.order d.node
+
+  unmoved : Now c
+  unmoved = (past, λ a r h. h)
 
   f : Facts order n
   f = kept.kept.follows.facts
@@ -139,50 +128,46 @@ module _ (most : ℕ) (few : most ≤ 2 ^ 63) (c : Course) (kept : CourseKept mo
   -- ---- over the same order
   by_row : (m : ModelNode) → Reaches order (Unit {0}) true n 0 m → After order m
   by_row m row =
-      let moved = still_holds former order n.at.member (Unit {0}) tt claim n m row stays h in
-      (moved.0.past, moved.1)
+      let k = still_kept former order n.at.member (Unit {0}) tt n m row stays in
+      (k.stays.past, k.claimed)
 
   client_after : (s : ℕ) (call : Call) → CanCall n call → After order (client order n s call).1
-  client_after s call fits = by (nat_lt n.at.committed n.at.view) refl
-    where
-      by : (b : Bool) → nat_lt n.at.committed n.at.view ≡ b
-          → After order (client order n s call).1
-      by true early =
-          let moved = still_holds former order n.at.member (CanCall n call) fits claim n
-          (client order n s call).1 (client_still order (CanCall n call) n s call early) stays
-          h in
-          (moved.0.past, moved.1)
-      by false late =
-          let moved = paid_holds former order n.at.member (CanCall n call) fits claim n 1
-          (client order n s call).1 (client_moves order true n s call)
-          (ltb-false n.at.committed n.at.view late) stays h in
-          (moved.0.past, moved.1)
+  client_after s call fits =
+      let m = (client order n s call).1 in
+      elim (cases_Bool (nat_lt n.at.committed n.at.view)) [
+        | inl early ↦
+            let k = still_kept former order n.at.member (CanCall n call) fits n m
+            (client_still order (CanCall n call) n s call early) stays in
+            (k.stays.past, k.claimed)
+        | inr late ↦
+            let k = paid_kept former order n.at.member (CanCall n call) fits n 1 m
+            (client_moves order true n s call) (ltb-false n.at.committed n.at.view late) stays in
+            (k.stays.past, k.claimed)
+      ]
 
-  reported_after : (left joining early : Bool) → is_left n.at.phase ≡ left
-      → is_joining n.at.phase ≡ joining → nat_lt n.at.committed n.at.view ≡ early
-      → After order (report_by n left (joining || early)).1
-  reported_after true joining early gone joins is = (past, h)
-  reported_after false true early here joins is = (past, h)
-  reported_after false false true here there is = (past, h)
-  reported_after false false false here there is =
-      let moved = paid_holds former order n.at.member (Unit {0}) tt claim n 1 (put_report n)
-      (paid n (put_report n) (Reports (connected_from n.at.phase here there)))
-      (ltb-false n.at.committed n.at.view is) stays h in
-      (moved.0.past, moved.1)
+  abbrev Reported : Answer × ModelNode → Type 0
+  Reported x = After order x.1
 
   report_after : After order (report_step n).1
   unfolding report_step
   report_after =
-      reported_after (is_left n.at.phase) (is_joining n.at.phase)
-      (nat_lt n.at.committed n.at.view) refl refl refl
+      cond_both (is_left n.at.phase) _ _ Reported (λ _. unmoved) (λ here.
+      cond_both (is_joining n.at.phase || nat_lt n.at.committed n.at.view) _ _ Reported
+      (λ _. unmoved) (λ may.
+      let no = or_parts (is_joining n.at.phase) _ may in
+      let k = paid_kept former order n.at.member (Unit {0}) tt n 1 (put_report n)
+      (paid n (put_report n) (Reports (connected_from n.at.phase here no.0)))
+      (ltb-false n.at.committed n.at.view no.1) stays in
+      (k.stays.past, k.claimed)))
 
   -- ---- over an order that grows
   others_after : (events : List Event) → AreOfOthers c events → After (order ++ events) n
   others_after events all =
-      let same = others_same order n.at.member (is_left n.at.phase) n.outbox events all.0 in
+      let same = silent_same order n.at.member n.outbox events
+      (others_silent n.at.member (is_left n.at.phase) events all.0) in
       let silent = others_silent_all former events all.1 in (
         past_grown order events n f n.outbox same past,
-        holds_grown former order events silent n f n.outbox same claim h,
+        claimed_grown former order events silent n f n.outbox same,
       )
 
   pub own_after : (front back : List Message) → n.outbox ≡ front ++ back
@@ -192,13 +177,12 @@ module _ (most : ℕ) (few : most ≤ 2 ^ 63) (c : Course) (kept : CourseKept mo
       let more = map (event_of n.at.member) front in
       let silent = own_silent_all former n.at.member (apart most few c kept) front in (
         past_grown order more n f back same past,
-        holds_ordered former (order ++ more) n front back claim
-            (holds_grown former order more silent n f back same claim h),
+        claimed_grown former order more silent n f back same,
       )
 
   first_after : (queue : List Message) → n.outbox ≡ queue
       → After (order ++ first_event n queue) (first_sent n queue)
-  first_after [] is = subst (λ o. After o n) (sym (append-nil order)) (past, h)
+  first_after [] is = subst (λ o. After o n) (sym (append-nil order)) unmoved
   first_after (x ∷ xs) is = own_after (x ∷ []) xs is
 
   abbrev longer : List Event
@@ -216,32 +200,32 @@ module _ (most : ℕ) (few : most ≤ 2 ^ 63) (c : Course) (kept : CourseKept mo
         serial = omega (arith, few, kept.kept.serial);
         begin = omega (arith, few, kept.kept.begin);
       } in
-      let moved = still_holds former longer n.at.member (Unit {0}) tt claim sent
-      (drained longer sent) (drained_moves longer (Unit {0}) sent (λ _. room))
-      (record { follows = follows_longer most few c kept; past = grown.0 }) grown.1 in
-      (moved.0.past, moved.1)
+      let k = still_kept former longer n.at.member (Unit {0}) tt sent (drained longer sent)
+      (drained_moves longer (Unit {0}) sent (λ _. room))
+      (record { follows = follows_longer most few c kept; past = grown.0 }) in
+      (k.stays.past, λ a r h. k.claimed a r (grown.1 a r h))
 
   -- a view without the member is ordered, and the node has left
   leave_after : (version : ℕ) (members : List ℕ)
       → After (order ++ event.View version members ∷ []) (left_node n)
   leave_after version members =
       let more = event.View version members ∷ [] in
-      let same = view_same order n.at.member version members n.outbox in
+      let same = silent_same order n.at.member n.outbox more (refl, tt) in
       let silent = view_silent_all former version members in
       let grown = past_grown order more n f n.outbox same past in (
         left_past (order ++ more) n grown,
-        left_holds (order ++ more) n grown former claim
-            (holds_grown former order more silent n f n.outbox same claim h),
+        λ a r h. left_claimed (order ++ more) n grown former a r
+            (claimed_grown former order more silent n f n.outbox same a r h),
       )
 
-  leave_by : (left : Bool) → Now claim (cond left c (leave_over c))
-  leave_by true = (past, h)
+  leave_by : (left : Bool) → Now (cond left c (leave_over c))
+  leave_by true = unmoved
   leave_by false = leave_after (last_view order).0 (all_but n.at.member (last_view order).1)
 
   -- a view with a new member is ordered, and the node is that
   join_by : (fresh may : Bool) → (is_left n.at.phase && n.at.taken == n.at.committed) ≡ may
-      → DoesFit c (act.Join fresh) → Now claim (cond may (join_over fresh c) c)
-  join_by fresh false is fits = (past, h)
+      → DoesFit c (act.Join fresh) → Now (cond may (join_over fresh c) c)
+  join_by fresh false is fits = unmoved
   join_by fresh true is fits =
       let parts = and_parts (is_left n.at.phase) (n.at.taken == n.at.committed) is in
       let all = equal n.at.taken n.at.committed parts.1 in
@@ -254,11 +238,10 @@ module _ (most : ℕ) (few : most ≤ 2 ^ 63) (c : Course) (kept : CourseKept mo
         joined_past (order ++ view_with order member ∷ []) n idle fresh member view
             (all_push (λ (e : Event). message_of member e ≡ None) order (view_with order member)
             (fits parts.0 all).1 refl) none,
-        joined_holds former order n f past none version members fresh member view claim h,
+        joined_claimed former order n f past none version members fresh member view,
       )
 
-  does_holds : (a : Act) → DoesFit c a → length (does c a).order ≤ 2 ^ 63
-      → Now claim (does c a)
+  does_holds : (a : Act) → DoesFit c a → length (does c a).order ≤ 2 ^ 63 → Now (does c a)
   does_holds act.Order fits short = first_after n.outbox refl
   does_holds act.Drain fits short = drain_after short
   does_holds (act.Client session call) fits short =
@@ -272,23 +255,23 @@ module _ (most : ℕ) (few : most ≤ 2 ^ 63) (c : Course) (kept : CourseKept mo
   does_holds act.Advance fits short = by_row _ (advance_moves order (Unit {0}) n)
   does_holds act.Report fits short = report_after
   does_holds act.Status fits short =
-      subst (λ m. Now claim (record c { node = m })) (sym (status_same order n)) (past, h)
+      subst (λ m. Now (record c { node = m })) (sym (status_same order n)) unmoved
   does_holds act.Leave fits short = leave_by (is_left n.at.phase)
   does_holds (act.Join fresh) fits short =
       join_by fresh (is_left n.at.phase && n.at.taken == n.at.committed) refl fits
-  does_holds (act.Transfer donor) fits short = (past, h)
+  does_holds (act.Transfer donor) fits short = unmoved
 
   -- what it takes reaches the view of its member, of which it has taken less
   below_number : (number : ℕ) → HasJoined order n → n.at.view ≤ number → n.at.committed ≤ number
   below_number number joined up = omega (arith, joined.behind, joined.rest.all_committed, up)
 
   pub next_holds : (x : Happens) → Fits c x → length (next c x).order ≤ 2 ^ 63
-      → Now claim (next c x)
+      → Now (next c x)
   next_holds (Others events) fits short = others_after events fits
   next_holds (Does a) fits short = does_holds a fits short
-  next_holds (Takes last) fits short = (past, events_holds former order n last claim h)
+  next_holds (Takes last) fits short = (past, λ a r h. h)
   next_holds (Installs number id) fits short =
       let joined = has_joined most few c kept fits.0 in (
         snapshot_past order n joined.rest.none_live number id past,
-        snapshot_holds former order n number id (below_number number joined fits.1) claim h,
+        snapshot_claimed former order n number id (below_number number joined fits.1),
       )

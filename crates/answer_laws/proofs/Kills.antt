@@ -1,5 +1,5 @@
 -- A unit that starts aborts transactions: each answer that this leaves claims what holds.
-use Rattle.std.proofs.Common.{◌≡◌, ℕ, ◌≤◌, Bool, true, false, cond, List, [], ◌∷◌, inl, inr, Option, Some, None, refl, ap, sym, subst, ◌∙◌}
+use Rattle.std.proofs.Common.{◌≡◌, ℕ, ◌≤◌, true, List, [], ◌∷◌, inl, inr, Option, Some, None, refl, ap, sym, subst, ◌∙◌}
 use Rattle.std.specs.Prelude.{fold, is_some}
 use Rattle.std.specs.Ordering.{nat_cmp}
 use Rattle.std.proofs.lemmas.Option.{same_Some}
@@ -10,7 +10,6 @@ use Rattle.key_sets.proofs.ListLemmas.{In}
 use Rattle.row_model.specs.declared.calls.Reply.TheVariants as reply
 use Rattle.order_event.specs.declared.event.Event.{Event}
 use Rattle.order_event.specs.declared.step.Answer.{Answer}
-use Rattle.order_event.specs.declared.step.Answer.TheVariants as answer
 use Rattle.write_set.specs.declared.write_set.WriteSet.{WriteSet}
 use Rattle.cert_meaning.specs.declared.items.CommitItem.{CommitItem}
 use Rattle.client_trx.specs.Live.{Live, has_locks, is_uncommitted, killed_in, rollback_due, with_status}
@@ -30,7 +29,8 @@ use Rattle.node_laws.proofs.UnitMoves.{CanTakeBack, over, kills_over, session_on
 use Rattle.course_laws.proofs.PendingSets.{within_order}
 use Rattle.answer_laws.specs.Answers.{Asker, asker_of}
 use Rattle.answer_laws.proofs.Causes.{shut_ended, shut_back, unit_defeats}
-use Rattle.answer_laws.proofs.Telling.{Stays, Waits, Tells, same_tells, put_tells, end_tells, still_holds, still_waits}
+use Rattle.answer_laws.proofs.Telling.{Stays, Waits, Tells, same_tells, put_tells, end_tells, still_waits, still_kept}
+use Rattle.std.proofs.lemmas.Bool.{cond_both}
 
 module _ (order : List Event) (member number : ℕ) (item : CommitItem)
     (is : commit_at order number ≡ Some item) where
@@ -67,8 +67,7 @@ module _ (order : List Event) (member number : ℕ) (item : CommitItem)
     status_by status.CommitSent now touching = put_due _ (with_status t status.KilledSent) refl
     status_by (status.Certified k) now touching =
         put_due _ (with_status t (status.Replaying k)) refl
-    status_by status.KilledSent now touching = put_due _ t refl
-    status_by (status.Replaying k) now touching = put_due _ t refl
+    status_by _ now touching = put_due _ t refl
 
   -- what is known of each node on the way
   record Way (former : List ℕ) (askers : FiniteMap nat_cmp Asker) (n : ModelNode)
@@ -99,7 +98,7 @@ module _ (order : List Event) (member number : ℕ) (item : CommitItem)
         session_moves order (Unit {0}) number n s (get n.live s) refl (λ _ _. h.can) in
         let only = session_only number n s (get n.live s) in
         record {
-          stays = (still_holds former order member (Unit {0}) tt None n m row h.stays tt).0;
+          stays = (still_kept former order member (Unit {0}) tt n m row h.stays).stays;
           waits = still_waits former order member (Unit {0}) tt n m row h.stays askers h.waits
               (session_tells n h s (get n.live s) refl touching);
           can = still_back n m (reach_grows order (Unit {0}) true n 0 m row)
@@ -149,19 +148,16 @@ module _ (former : List ℕ) (order : List Event) (member : ℕ) (askers : Finit
     after_waits (Some earlier) = w
     after_waits None = started_waits
 
-  chosen : (b : Bool) (x y : Answer × ModelNode) → Waits former order x.1 askers
-      → Waits former order y.1 askers → Waits former order (cond b x y).1 askers
-  chosen true x y one other = one
-  chosen false x y one other = other
+  abbrev After : Answer × ModelNode → Type 0
+  After x = Waits former order x.1 askers
 
   unit_waits : (o : Option CommitItem)
       → passed_at order n.at.committed n.at.certified number ≡ o
       → Waits former order (start_unit order n number o).1 askers
   unit_waits None passed = w
   unit_waits (Some item) passed =
-      chosen (is_some (get n.units number)) (answer.NoUnit number, n) _ w
-      (chosen (is_local n.live number) (answer.Local number, n) _ w
-      (after_waits item passed (greatest
+      cond_both (is_some (get n.units number)) _ _ After (λ _. w) (λ _.
+      cond_both (is_local n.live number) _ _ After (λ _. w) (λ _. after_waits item passed (greatest
       (touching_before (ahead order n.at.committed n.at.certified) number item.keys))))
 
   pub start_waits : Waits former order (start_step order n number).1 askers

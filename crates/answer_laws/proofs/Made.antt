@@ -1,57 +1,36 @@
 -- A passed commit is made by a write set of its sender that ends its transaction.
-use Rattle.std.proofs.Common.{◌≡◌, ℕ, zero, suc, ◌≤◌, Bool, true, false, cond, List, length, Option, Some, None, refl, ap, sym, ◌∙◌, add-one}
-use Rattle.std.specs.Prelude.{◌==◌, ◌||◌, not}
+use Rattle.std.proofs.Common.{◌≡◌, ℕ, zero, suc, ◌≤◌, true, List, length, Option, Some, None, refl, ap, sym, ◌∙◌, add-one, arith}
 use Rattle.std.proofs.lemmas.Option.{same_Some}
 use Rattle.wsrep_base.specs.declared.ids.TrxId.{TrxId}
 use Rattle.wsrep_base.specs.declared.verdict.Verdict.{Verdict}
 use Rattle.wsrep_base.specs.declared.verdict.Verdict.TheVariants as verdict
-use Rattle.wsrep_base.specs.declared.verdict.Judged.TheVariants as became
 use Rattle.order_event.specs.declared.event.Event.{Event}
 use Rattle.order_event.specs.declared.event.Event.TheVariants as event
 use Rattle.write_set.specs.declared.write_set.WriteSet.{WriteSet}
 use Rattle.write_set.specs.Reading.{decoded}
 use Rattle.cert_meaning.specs.declared.items.CommitItem.{CommitItem}
-use Rattle.cert_meaning.specs.State.{FoldState, is_member, no_events}
+use Rattle.cert_meaning.specs.State.{FoldState, no_events}
 use Rattle.cert_meaning.specs.Verdict as rules
 use Rattle.cert_meaning.specs.Verdict.{trx_of, is_end, is_rollback}
-use Rattle.cert_meaning.specs.Fold.{Effect, Same, Closes, Adds, Commits, effect_of, judged_as, judged_write, state_at, commit_of, commit_made, commit_written, commit_by}
+use Rattle.cert_meaning.specs.Fold.{Effect, Commits, effect_of, judged_as, judged_write, state_at, commit_of, commit_made, commit_written, commit_by}
 use Rattle.cert_meaning.proofs.FoldLaws.{some_there}
 use Rattle.node_meaning.specs.Facts.{commit_at}
 use Rattle.node_meaning.proofs.PassedLaws.{commit_at-is}
-use Rattle.node_laws.proofs.SetLists.{equal}
 use Rattle.answer_laws.specs.Answers.{IsWriteAt, PassesAt}
 
 -- what passes is of its sender
-own_by : (a b : Bool) (v : Verdict) → cond (not a || not b) verdict.Stranger v ≡ verdict.Pass
-    → b ≡ true
-own_by true true v is = refl
-own_by true false v is = cc
-own_by false b v is = cc
-
 pub of_sender : (s : FoldState) (member : ℕ) (w : WriteSet)
     → rules.verdict s member w ≡ verdict.Pass → w.member ≡ member
 unfolding rules.verdict
 of_sender s member w is =
-    equal w.member member (own_by (is_member s member) (w.member == member) _ is)
+    grind arith
 
 commits_pass : (w : WriteSet) (v : Verdict) → effect_of (judged_as w v) ≡ Commits
     → v ≡ verdict.Pass
-commits_pass w verdict.Pass h = refl
-commits_pass w verdict.Malformed h = cc
-commits_pass w verdict.Stranger h = cc
-commits_pass w verdict.Repeat h = cc
-commits_pass w verdict.Future h = cc
-commits_pass w verdict.Stale h = cc
-commits_pass w verdict.Broken h = cc
-commits_pass w (verdict.Conflict v) h = cc
-commits_pass w (verdict.Held v) h = cc
+commits_pass w v h = grind arith
 
-end_by : (back last : Bool)
-    → effect_of (cond back became.Rollback (cond last became.Commit became.Fragment)) ≡ Commits
-    → last ≡ true
-end_by true last h = cc
-end_by false true h = refl
-end_by false false h = cc
+end_by : (w : WriteSet) → effect_of (judged_as w verdict.Pass) ≡ Commits → is_end w ≡ true
+end_by w h = grind arith
 
 -- the event that made a commit
 pub record IsMadeBy (s : FoldState) (e : Event) (c : CommitItem) : Type 0 where
@@ -67,9 +46,6 @@ module _ (s : FoldState) (sender : ℕ) (body : List ℕ) (c : CommitItem) where
   made_by : (w : WriteSet) (effect : Effect) → effect_of (judged_write s sender (Some w)) ≡ effect
       → decoded body ≡ Some w → commit_made s w effect ≡ Some c
       → IsMadeBy s (event.Write sender body) c
-  made_by w Same is read made = cc
-  made_by w Closes is read made = cc
-  made_by w Adds is read made = cc
   made_by w Commits is read made =
       let pass = commits_pass w (rules.verdict s sender w) is in
       let home = of_sender s sender w pass in
@@ -82,10 +58,11 @@ module _ (s : FoldState) (sender : ℕ) (body : List ℕ) (c : CommitItem) where
             (sym home ∙ ap (λ (x : TrxId). x.member) of_trx);
         is = read;
         of_trx = of_trx;
-        ends = end_by (is_rollback w) (is_end w)
+        ends = end_by w
             (ap (λ v. effect_of (judged_as w v)) (sym pass) ∙ is);
         passes = ap (λ k. rules.verdict s k w) home ∙ pass;
       }
+  made_by w _ is read made = cc
 
   made_body : (o : Option WriteSet) → decoded body ≡ o → commit_written s sender o ≡ Some c
       → IsMadeBy s (event.Write sender body) c
@@ -98,8 +75,7 @@ commit_made_by : (s : FoldState) (e : Event) (c : CommitItem) → commit_of s e 
 unfolding commit_of
 commit_made_by s (event.Write sender body) c made =
     made_body s sender body c (decoded body) refl made
-commit_made_by s (event.View version members) c made = cc
-commit_made_by s (event.Report sender number) c made = cc
+commit_made_by s _ c made = cc
 
 -- in an order
 pub record IsMadeAt (order : List Event) (k : ℕ) (c : CommitItem) : Type 0 where

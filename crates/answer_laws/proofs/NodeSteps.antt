@@ -1,7 +1,7 @@
 -- What waits after each step of a node by itself: what waited, and a new answer that claims what
 -- holds.
-use Rattle.std.proofs.Common.{◌≡◌, ℕ, ◌+◌, Bool, true, false, cond, List, Option, Some, None, refl, ap, sym, subst, ◌∙◌, add-one}
-use Rattle.std.specs.Prelude.{◌==◌, ◌||◌, nat_lt, slice_get}
+use Rattle.std.proofs.Common.{◌≡◌, ℕ, ◌+◌, Bool, true, false, cond, List, Option, Some, None, refl, ap, sym, subst, ◌∙◌, add-one, arith}
+use Rattle.std.specs.Prelude.{◌==◌, slice_get}
 use Rattle.std.specs.List.{find}
 use Rattle.finite_map.specs.FiniteMap.{get}
 use Rattle.wsrep_base.specs.declared.verdict.Verdict.{Verdict}
@@ -10,15 +10,14 @@ use Rattle.row_model.specs.declared.calls.Reply.TheVariants as reply
 use Rattle.order_event.specs.declared.event.Event.{Event}
 use Rattle.order_event.specs.declared.event.Event.TheVariants as event
 use Rattle.order_event.specs.declared.step.Answer.{Answer}
-use Rattle.order_event.specs.declared.step.Answer.TheVariants as answer
 use Rattle.write_set.specs.declared.write_set.WriteSet.{WriteSet}
 use Rattle.write_set.specs.Reading.{decoded}
 use Rattle.cert_meaning.specs.Fold.{judged, judged_write, state_at}
 use Rattle.client_trx.specs.Live.{Live, is_sent, judged_by, passed_status, with_status}
 use Rattle.node_meaning.specs.declared.progress.Stage.{Stage}
 use Rattle.node_meaning.specs.declared.progress.Stage.TheVariants.{Started, Finished}
-use Rattle.node_meaning.specs.Node.{ModelNode, ApplyUnit, is_left, is_joining, is_connected, set_live, end_with}
-use Rattle.node_meaning.specs.Steps.{is_write, is_report, is_this_write, without_first, took, take_event, take_step, verdict_of, told, session_of, told_verdict, told_own, certify_event, certify_step, finish_stage, finish_unit, finish_step, put_report, report_step, committer_of, told_committed, is_ready, advance_step}
+use Rattle.node_meaning.specs.Node.{ModelNode, ApplyUnit, is_connected, set_live, end_with}
+use Rattle.node_meaning.specs.Steps.{is_write, is_report, is_this_write, without_first, took, take_event, take_step, verdict_of, told, session_of, told_verdict, told_own, certify_event, certify_step, finish_stage, finish_unit, finish_step, report_step, committer_of, told_committed, is_ready, advance_step}
 use Rattle.node_meaning.specs.Status.{status_step}
 use Rattle.node_meaning.specs.Facts.{Facts}
 use Rattle.node_meaning.proofs.EntryLaws.{entry_found}
@@ -33,25 +32,13 @@ use Rattle.answer_laws.proofs.Claims.{Claim, Stands}
 use Rattle.answer_laws.proofs.Causes.{commit_stands}
 use Rattle.answer_laws.proofs.Deadlocks.{cert_defeats}
 use Rattle.answer_laws.proofs.Telling.{Tells, same_tells, put_tells, end_tells}
+use Rattle.std.proofs.lemmas.Bool.{cond_both}
 
 -- ---- reporting
--- the node has left, it is early, or it reports
-abbrev pub report_by : ModelNode → Bool → Bool → Answer × ModelNode
-report_by n left early =
-    cond left (answer.Disconnected, n)
-    (cond early (answer.NotSynced, n) (answer.Reported n.at.committed, put_report n))
-
-reported_waiting : (n : ModelNode) (left early : Bool)
-    → (report_by n left early).1.waiting ≡ n.waiting
-reported_waiting n true early = refl
-reported_waiting n false true = refl
-reported_waiting n false false = refl
-
 pub report_waiting : (n : ModelNode) → (report_step n).1.waiting ≡ n.waiting
 unfolding report_step
 report_waiting n =
-    reported_waiting n (is_left n.at.phase)
-    (is_joining n.at.phase || nat_lt n.at.committed n.at.view)
+    grind arith
 
 -- a node's status changes nothing
 pub status_same : (order : List Event) (n : ModelNode) → (status_step order n).1 ≡ n
@@ -62,16 +49,8 @@ module _ (order : List Event) (n : ModelNode) where
   still : Tells order n n
   still = same_tells order n n refl refl
 
-  -- either of two nodes
-  either : (b : Bool) (x y : Answer × ModelNode) → (b ≡ true → Tells order n x.1)
-      → (b ≡ false → Tells order n y.1) → Tells order n (cond b x y).1
-  either true x y one other = one refl
-  either false x y one other = other refl
-
-  picked : (b : Bool) (x y : ModelNode) → (b ≡ true → Tells order n x)
-      → (b ≡ false → Tells order n y) → Tells order n (cond b x y)
-  picked true x y one other = one refl
-  picked false x y one other = other refl
+  abbrev After : Answer × ModelNode → Type 0
+  After x = Tells order n x.1
 
   -- ---- taking
   unqueued_write : (body : List ℕ) (a b : Bool)
@@ -96,7 +75,7 @@ module _ (order : List Event) (n : ModelNode) where
 
   pub take_tells : Tells order n (take_step order n).1
   unfolding take_step
-  take_tells = either (is_connected n.at.phase) _ _
+  take_tells = cond_both (is_connected n.at.phase) _ _ After
       (λ _. take_by (slice_get order n.at.taken)) (λ _. still)
 
   -- ---- finishing
@@ -133,10 +112,9 @@ module _ (order : List Event) (n : ModelNode) where
     pub advance_tells : Tells order n (advance_step order n).1
     unfolding advance_step
     advance_tells =
-        either (n.at.committed == n.at.certified) (answer.Nothing, n) _ (λ _. still) (λ more.
-        either (is_ready order n (n.at.committed + 1)) (answer.At (n.at.committed + 1), _)
-        (answer.NotReady (n.at.committed + 1), n)
-        (λ ready. committer_by (committer_of n.live (n.at.committed + 1)) refl) (λ _. still))
+        cond_both (n.at.committed == n.at.certified) _ _ After (λ _. still) (λ _.
+        cond_both (is_ready order n (n.at.committed + 1)) _ _ After
+        (λ _. committer_by (committer_of n.live (n.at.committed + 1)) refl) (λ _. still))
 
   -- ---- certifying
   module _ (f : Facts order n) (stage : Time order n) (h : Pasts order n)
@@ -164,12 +142,7 @@ module _ (order : List Event) (n : ModelNode) where
           now.there refl refl refl
       verdict_by (verdict.Conflict v) is = ends_by v (verdict.Conflict v) AsCommit is
       verdict_by (verdict.Held v) is = ends_by v (verdict.Held v) AsFragment is
-      verdict_by verdict.Malformed is = put_same
-      verdict_by verdict.Stranger is = put_same
-      verdict_by verdict.Repeat is = put_same
-      verdict_by verdict.Future is = put_same
-      verdict_by verdict.Stale is = put_same
-      verdict_by verdict.Broken is = put_same
+      verdict_by _ is = put_same
 
     module _ (body : List ℕ)
         (there : slice_get order n.at.certified ≡ Some (event.Write n.at.member body)) where
@@ -180,8 +153,9 @@ module _ (order : List Event) (n : ModelNode) where
       found_by w is None found = certified_same
       found_by w is (Some e) found =
           let entry = entry_found n.live (λ e. e.1.trx.begin == w.begin) e found in
-          picked (is_sent e.1.status) (told (with_certified n) e.0
+          cond_both (is_sent e.1.status) (told (with_certified n) e.0
           (judged_by (n.at.certified + 1) (verdict_next order n w) e.1)) (with_certified n)
+          (Tells order n)
           (λ waits. verdict_by body there w e.0 e.1 (record {
             more = more;
             next = there;
@@ -219,7 +193,7 @@ module _ (order : List Event) (n : ModelNode) where
     event_by : (e : Event) → slice_get order n.at.certified ≡ Some e
         → Tells order n (certify_event order n (Some e)).1
     event_by (event.Write sender body) there =
-        picked (sender == n.at.member) (told_by sender body) (with_certified n)
+        cond_both (sender == n.at.member) (told_by sender body) (with_certified n) (Tells order n)
         (λ own.
         let same : sender ≡ n.at.member = equal sender n.at.member own in
         subst (λ k. Tells order n (told_by k body)) (sym same)
@@ -237,6 +211,5 @@ module _ (order : List Event) (n : ModelNode) where
       → Tells order n (certify_step order n).1
   unfolding certify_step
   certify_tells f stage h =
-      either (n.at.certified == n.at.taken) (answer.Nothing, n)
-      (certify_event order n (slice_get order n.at.certified)) (λ _. still)
+      cond_both (n.at.certified == n.at.taken) _ _ After (λ _. still)
       (λ more. next_by f stage h more (slice_get order n.at.certified) refl)

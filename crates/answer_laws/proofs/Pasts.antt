@@ -1,10 +1,10 @@
 -- What a node has sent of each transaction, kept by every move: of one that is not begun nothing,
 -- of one whose commit is not sent no commit, and of none more than one commit.
-use Rattle.std.proofs.Common.{◌≡◌, ℕ, ◌+◌, ◌≤◌, ◌<◌, Bool, true, false, cond, List, [], ◌∷◌, ◌++◌, Option, Some, None, refl, ap, sym, subst, ◌∙◌, arith, eq-eqb, true≢false}
+use Rattle.std.proofs.Common.{◌≡◌, ℕ, ◌+◌, ◌≤◌, ◌<◌, Bool, true, false, cond, List, [], ◌∷◌, ◌++◌, Option, Some, None, refl, ap, sym, subst, ◌∙◌, arith, eq-eqb, true≢false, inl, inr}
 use Rattle.std.specs.Prelude.{◌==◌}
 use Rattle.std.specs.Ordering.{nat_cmp, eq_by_cmp}
 use Rattle.finite_map.specs.FiniteMap.{FiniteMap, get, insert, remove, get-remove}
-use Rattle.finite_map.proofs.Edits.{numbers, tied, Inserted, AtKey, Elsewhere, inserted, left, get-taken, get-put_beside}
+use Rattle.finite_map.proofs.Edits.{numbers, tied, Inserted, AtKey, Elsewhere, inserted, left, get-taken, get-put_beside, each_put, each_left}
 use Rattle.wsrep_base.specs.declared.ids.TrxId.{TrxId}
 use Rattle.row_model.specs.declared.calls.Reply.{Reply}
 use Rattle.order_event.specs.declared.event.Event.{Event}
@@ -19,7 +19,6 @@ use Rattle.client_trx.specs.Live.{Live, is_uncommitted, with_status, fragment_se
 use Rattle.client_trx.specs.declared.status.Status.TheVariants as status
 use Rattle.node_meaning.specs.Node.{ModelNode}
 use Rattle.node_meaning.specs.Facts.{Facts, Lined}
-use Rattle.node_meaning.proofs.EntryLaws.{some_not_none}
 use Rattle.node_meaning.proofs.ClientFacts.{first}
 use Rattle.node_laws.proofs.SetLists.{equal, unequal}
 use Rattle.node_laws.proofs.Lining.{elsewhere}
@@ -28,7 +27,8 @@ use Rattle.course_laws.specs.Ordered.{pending_sets}
 use Rattle.course_laws.proofs.PendingSets.{sets_lined}
 use Rattle.answer_laws.specs.Answers.{IsWriteAt, PassesAt}
 use Rattle.answer_laws.specs.Counting.{is_of, is_end_of, count_sent}
-use Rattle.answer_laws.proofs.Counted.{sent-one, sent-report, one_there, no_ends, end_is, end_of_other, no_end}
+use Rattle.answer_laws.proofs.Counted.{sent-one, sent-report, one_there, no_ends, end_of_other, no_end}
+use Rattle.std.proofs.lemmas.Bool.{and_parts, cases_Bool, cond_both, false_from_ne_true}
 
 -- ---- what is kept
 -- of a live transaction, among the events that are certified
@@ -54,31 +54,24 @@ Pasts order n = Past order n.at.member n.at.begin n.at.certified n.outbox n.live
 
 -- ---- sessions that are idle
 module _ (live : FiniteMap nat_cmp Live) (s : ℕ) where
-  pub idle_put : (t u : Live) → get live s ≡ Some t → (q : ℕ) → get live q ≡ None
+  pub idle_put : (u : Live) (q : ℕ) → (q ≡ s → ⊥) → get live q ≡ None
       → get (insert live s u) q ≡ None
-  idle_put t u there q none = by (eq_by_cmp nat_cmp q s) refl
-    where
-      by : (b : Bool) → eq_by_cmp nat_cmp q s ≡ b → get (insert live s u) q ≡ None
-      by true tie = absurd (some_not_none t (get live s) there
-          (ap (get live) (sym (tied numbers q s tie)) ∙ none))
-      by false differs = get-put_beside numbers live s u q differs ∙ none
+  idle_put u q apart none =
+      get-put_beside numbers live s u q
+      (false_from_ne_true (eq_by_cmp nat_cmp q s) (λ tie. apart (tied numbers q s tie))) ∙ none
 
   pub idle_gone : (q : ℕ) → get live q ≡ None → get (remove live s) q ≡ None
-  idle_gone q none = get-remove numbers.total live s q ∙ by (eq_by_cmp nat_cmp q s)
-    where
-      by : (b : Bool) → cond b None (get live q) ≡ None
-      by true = refl
-      by false = none
+  idle_gone q none =
+      get-remove numbers.total live s q
+      ∙ cond_both (eq_by_cmp nat_cmp q s) None (get live q) (λ o. o ≡ None) (λ _. refl) (λ _. none)
 
   module _ (waiting : FiniteMap nat_cmp Reply)
       (idle : (q : ℕ) (r : Reply) → get waiting q ≡ Some r → get live q ≡ None) where
     pub idle_insert : (answer : Reply) (q : ℕ) (r : Reply)
         → get (insert waiting s answer) q ≡ Some r → get (remove live s) q ≡ None
-    idle_insert answer q r is = by (inserted numbers waiting s answer q r is)
-      where
-        by : Inserted numbers waiting s answer q r → get (remove live s) q ≡ None
-        by (AtKey here same) = ap (get (remove live s)) here ∙ get-taken numbers live s
-        by (Elsewhere differs at) = idle_gone q (idle q r at)
+    idle_insert answer =
+        each_put numbers waiting s (λ q _. get (remove live s) q ≡ None)
+        (λ q r is. idle_gone q (idle q r is)) answer (get-taken numbers live s)
 
     idle_reply : (o : Option Reply) (q : ℕ) (r : Reply) → get (with_reply waiting s o) q ≡ Some r
         → get (remove live s) q ≡ None
@@ -93,19 +86,20 @@ module _ (order : List Event) (n : ModelNode) (h : Pasts order n) where
   abbrev c : ℕ
   c = n.at.certified
 
+  pub still_idle : (s : ℕ) (t u : Live) → get n.live s ≡ Some t → (q : ℕ) (r : Reply)
+      → get n.waiting q ≡ Some r → get (insert n.live s u) q ≡ None
+  still_idle s t u there q r is =
+      let none = h.idle q r is in idle_put n.live s u q (λ same. cc) none
+
   -- a live transaction is changed
   pub put_past : (s : ℕ) (t u : Live) → get n.live s ≡ Some t → HasPast order m c n.outbox u
       → Past order m n.at.begin c n.outbox (insert n.live s u) n.waiting
   put_past s t u there past = record {
     fresh = h.fresh;
     once = h.once;
-    each = λ q v at. by q v (inserted numbers n.live s u q v at);
-    idle = λ q r is. idle_put n.live s t u there q (h.idle q r is);
+    each = each_put numbers n.live s (λ _ v. HasPast order m c n.outbox v) h.each u past;
+    idle = still_idle s t u there;
   }
-    where
-      by : (q : ℕ) (v : Live) → Inserted numbers n.live s u q v → HasPast order m c n.outbox v
-      by q v (AtKey here same) = subst (HasPast order m c n.outbox) (sym same) past
-      by q v (Elsewhere differs at) = h.each q v at
 
   -- and ends
   pub gone_past : (s : ℕ) (o : Option Reply)
@@ -113,7 +107,7 @@ module _ (order : List Event) (n : ModelNode) (h : Pasts order n) where
   gone_past s o = record {
     fresh = h.fresh;
     once = h.once;
-    each = λ q v at. h.each q v (left numbers n.live s q v at).there;
+    each = each_left numbers n.live s (λ _ v. HasPast order m c n.outbox v) h.each;
     idle = idle_reply n.live s n.waiting h.idle o;
   }
 
@@ -141,23 +135,12 @@ module _ (order : List Event) (n : ModelNode) (h : Pasts order n) where
           (not_there new.trx before w refl (h.fresh n.at.begin (omega arith)) at);
     }
 
-    begun_by : (q : ℕ) (v : Live) → Inserted numbers n.live s new q v
-        → HasPast order m c n.outbox v
-    begun_by q v (AtKey here same) = subst (HasPast order m c n.outbox) (sym same) new_past
-    begun_by q v (Elsewhere differs at) = h.each q v at
-
-    beside : (q : ℕ) (r : Reply) → get n.waiting q ≡ Some r → (b : Bool)
-        → eq_by_cmp nat_cmp q s ≡ b → get (insert n.live s new) q ≡ None
-    beside q r is true tie = absurd (some_not_none r (get n.waiting q) is
-        (ap (get n.waiting) (tied numbers q s tie) ∙ may.told))
-    beside q r is false differs = get-put_beside numbers n.live s new q differs ∙ h.idle q r is
-
     pub begun_past : Past order m (n.at.begin + 1) c n.outbox (insert n.live s new) n.waiting
     begun_past = record {
       fresh = λ b above. h.fresh b (omega (arith, above));
       once = h.once;
-      each = λ q v at. begun_by q v (inserted numbers n.live s new q v at);
-      idle = λ q r is. beside q r is (eq_by_cmp nat_cmp q s) refl;
+      each = each_put numbers n.live s (λ _ v. HasPast order m c n.outbox v) h.each new new_past;
+      idle = λ q r is. idle_put n.live s new q (λ same. cc may.told) (h.idle q r is);
     }
 
   -- ---- a report is sent
@@ -224,31 +207,29 @@ module _ (order : List Event) (n : ModelNode) (h : Pasts order n) where
         ∙ h.fresh b above
 
     -- it is no commit, or the first one
-    once_sent : (b : ℕ) (ends : Bool) → is_end w ≡ ends
-        → (ends ≡ true → is_uncommitted t.status ≡ true) → (own : Bool) → w.begin == b ≡ own
+    once_sent : (is_end w ≡ true → is_uncommitted t.status ≡ true) → (b : ℕ)
         → count_sent (is_end_of b) m order now ≤ 1
-    once_sent b false is may own same =
-        let one = same_count (is_end_of b) (no_end b w is) in
-        omega (arith, one, h.once b)
-    once_sent b true is may false differs =
-        let one = same_count (is_end_of b) (end_of_other b w differs) in
-        omega (arith, one, h.once b)
-    once_sent b true is may true same =
-        let here : t.trx.begin ≡ b = sym begin ∙ equal w.begin b same in
-        let none = (h.each s t there).unended (may refl) in
-        let one = counted (is_end_of b) true
-        (end_is b w (equal w.begin b same) is) in
-        let zero_is : count_sent (is_end_of b) m order n.outbox ≡ 0 =
-        subst (λ k. count_sent (is_end_of k) m order n.outbox ≡ 0) here none in
-        omega (arith, one, zero_is)
+    once_sent may b =
+        elim (cases_Bool (is_end_of b w)) [
+          | inl is ↦
+              let parts = and_parts (w.begin == b) (is_end w) is in
+              let here : t.trx.begin ≡ b = sym begin ∙ equal w.begin b parts.0 in
+              omega (
+                arith,
+                counted (is_end_of b) true is,
+                subst (λ k. count_sent (is_end_of k) m order n.outbox ≡ 0) here
+                    ((h.each s t there).unended (may parts.1)),
+              )
+          | inr is ↦ omega (arith, counted (is_end_of b) false is, h.once b)
+        ]
 
     pub sent_past : (is_end w ≡ true → is_uncommitted t.status ≡ true) → (u : Live)
         → HasPast order m c now u → Past order m n.at.begin c now (insert n.live s u) n.waiting
     sent_past may u past = record {
       fresh = fresh_sent;
-      once = λ b. once_sent b (is_end w) refl may (w.begin == b) refl;
+      once = once_sent may;
       each = λ q v at. by q v (inserted numbers n.live s u q v at);
-      idle = λ q r is. idle_put n.live s t u there q (h.idle q r is);
+      idle = still_idle s t u there;
     }
       where
         by : (q : ℕ) (v : Live) → Inserted numbers n.live s u q v → HasPast order m c now v
@@ -259,14 +240,10 @@ module _ (order : List Event) (n : ModelNode) (h : Pasts order n) where
         → Past order m n.at.begin c now (remove n.live s) (with_reply n.waiting s o)
     last_past none o = record {
       fresh = fresh_sent;
-      once = λ b. once_sent b false none (λ is. absurd (true≢false (sym is))) (w.begin == b) refl;
+      once = once_sent (λ is. absurd (true≢false (sym is ∙ none)));
       each = λ q v at. let was = left numbers n.live s q v at in others q v was.elsewhere was.there;
       idle = idle_reply n.live s n.waiting h.idle o;
     }
-
-    own_passed : (before : ℕ) (x : WriteSet) → before < c → IsWriteAt order before t.trx x
-        → PassesAt order before x
-    own_passed = (h.each s t there).passed
 
     pub fragment_past : is_end w ≡ false → is_uncommitted t.status ≡ true
         → HasPast order m c now (fragment_sent t)
@@ -274,12 +251,12 @@ module _ (order : List Event) (n : ModelNode) (h : Pasts order n) where
       unended = λ _. same_count (is_end_of t.trx.begin) (no_end t.trx.begin w none)
           ∙ (h.each s t there).unended may;
       unsent = λ _ zero_is. absurd (omega (arith, zero_is));
-      passed = own_passed;
+      passed = (h.each s t there).passed;
     }
 
     pub commit_past : HasPast order m c now (with_status t status.CommitSent)
     commit_past = record {
       unended = λ o. absurd (true≢false (sym o));
       unsent = λ o _. absurd (true≢false (sym o));
-      passed = own_passed;
+      passed = (h.each s t there).passed;
     }

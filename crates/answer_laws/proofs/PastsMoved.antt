@@ -1,9 +1,9 @@
 -- Every move keeps what a node has sent of each transaction.
-use Rattle.std.proofs.Common.{◌≡◌, ℕ, ◌+◌, ◌≤◌, ◌<◌, Bool, true, false, cond, List, [], length, Option, Some, None, refl, ap, sym, subst, ◌∙◌, arith, eq-eqb, true≢false, ltb-true, ltb-false}
-use Rattle.std.specs.Prelude.{◌==◌, ◌||◌, nat_lt, slice_get}
+use Rattle.std.proofs.Common.{◌≡◌, ℕ, ◌+◌, ◌≤◌, true, false, List, length, Option, Some, None, refl, ap, sym, subst, ◌∙◌, arith, eq-eqb, true≢false, inl, inr}
+use Rattle.std.specs.Prelude.{◌==◌, ◌||◌, slice_get}
 use Rattle.std.proofs.lemmas.Option.{same_Some}
 use Rattle.finite_map.specs.FiniteMap.{get, insert, remove}
-use Rattle.finite_map.proofs.Edits.{numbers, untied, Inserted, AtKey, Elsewhere, inserted, left}
+use Rattle.finite_map.proofs.Edits.{numbers, untied, left, each_put}
 use Rattle.wsrep_base.specs.declared.ids.TrxId.{TrxId}
 use Rattle.wsrep_base.specs.declared.verdict.Verdict.TheVariants as verdict
 use Rattle.row_model.specs.declared.calls.Reply.{Reply}
@@ -11,13 +11,11 @@ use Rattle.row_model.specs.declared.calls.Reply.TheVariants as reply
 use Rattle.order_event.specs.declared.event.Event.{Event}
 use Rattle.order_event.specs.declared.event.Event.TheVariants as event
 use Rattle.write_set.specs.declared.write_set.WriteSet.{WriteSet}
-use Rattle.write_set.specs.Reading.{decoded}
 use Rattle.cert_meaning.specs.Verdict as rules
 use Rattle.cert_meaning.specs.Verdict.{is_end}
 use Rattle.cert_meaning.specs.Fold.{state_at}
 use Rattle.client_trx.specs.Live.{Live, is_uncommitted, is_sent, passed_status, with_status, commit_of, fragment_of, rollback_of}
 use Rattle.client_trx.specs.declared.status.Status.{Status}
-use Rattle.client_trx.specs.declared.status.Status.TheVariants as status
 use Rattle.node_meaning.specs.Node.{ModelNode}
 use Rattle.node_meaning.specs.Client.{extended}
 use Rattle.node_meaning.specs.Steps.{session_of}
@@ -33,12 +31,8 @@ use Rattle.course_laws.proofs.Placing.{conflict_not}
 use Rattle.course_laws.proofs.PendingSets.{sets_lined, within_order, own_next}
 use Rattle.course_laws.proofs.Certifying.{own_decided}
 use Rattle.answer_laws.specs.Answers.{IsWriteAt, PassesAt}
-use Rattle.answer_laws.proofs.Pasts.{HasPast, Past, Pasts, put_past, gone_past, begun_past, reported_past, sent_past, last_past, fragment_past, commit_past}
-
-abbrev pub body_of : Event → List ℕ
-body_of (event.Write sender body) = body
-body_of (event.View version members) = []
-body_of (event.Report sender number) = []
+use Rattle.answer_laws.proofs.Pasts.{HasPast, Past, Pasts, put_past, gone_past, begun_past, reported_past, sent_past, last_past, fragment_past, commit_past, still_idle}
+use Rattle.std.proofs.lemmas.Bool.{cases_lt, cond_both}
 
 module _ (order : List Event) (n : ModelNode) (f : Facts order n) where
   abbrev m : ℕ
@@ -109,18 +103,14 @@ module _ (order : List Event) (n : ModelNode) (f : Facts order n) where
     later_past s t there last = record {
       unended = (h.each s t there).unended;
       unsent = (h.each s t there).unsent;
-      passed = λ before w inside at. by before w inside at (nat_lt before c) refl;
-    }
-      where
-        by : (before : ℕ) (w : WriteSet) → before < c + 1 → IsWriteAt order before t.trx w
-            → (b : Bool) → nat_lt before c ≡ b → PassesAt order before w
-        by before w inside at true below =
-            (h.each s t there).passed before w (ltb-true before c below) at
-        by before w inside at false above =
-            let last_is = ltb-false before c above in
-            let here : before ≡ c = omega (arith, inside, last_is) in
+      passed = λ before w inside at. elim (cases_lt before c) [
+        | inl below ↦ (h.each s t there).passed before w below at
+        | inr above ↦
+            let here : before ≡ c = omega (arith, inside, above) in
             subst (λ k. PassesAt order k w) (sym here)
             (last w (subst (λ k. IsWriteAt order k t.trx w) here at))
+      ];
+    }
 
     certified_past : (stage : Stage order n) (e : Event) → MayCertify order n e
         → Past order m n.at.begin (c + 1) n.outbox n.live n.waiting
@@ -137,10 +127,7 @@ module _ (order : List Event) (n : ModelNode) (f : Facts order n) where
         (judged : IsJudged order n s t body w) where
       same_set : (q : ℕ) (u : Live) (x : WriteSet) → get n.live q ≡ Some u
           → IsWriteAt order c u.trx x → x ≡ w
-      same_set q u x there at =
-          let events = same_Some (event.Write m at.body) (event.Write m body)
-          (sym (own_there q u x there at) ∙ judged.next) in
-          same_Some x w (sym at.is ∙ ap decoded (ap body_of events) ∙ judged.is)
+      same_set q u x there at = let own = own_there q u x there at in cc
 
       pass_last : verdict_next order n w ≡ verdict.Pass → (q : ℕ) (u : Live)
           → get n.live q ≡ Some u → (x : WriteSet) → IsWriteAt order c u.trx x
@@ -153,45 +140,25 @@ module _ (order : List Event) (n : ModelNode) (f : Facts order n) where
 
       still_open : (st : Status) → is_sent st ≡ true
           → is_uncommitted (passed_status (c + 1) st) ≡ true → is_uncommitted st ≡ true
-      still_open status.Running waits o = refl
-      still_open status.FragmentSent waits o = refl
-      still_open status.CommitSent waits o = o
-      still_open (status.Certified k) waits o = o
-      still_open status.KilledSent waits o = o
-      still_open (status.Replaying k) waits o = o
+      still_open st waits o = grind arith
 
       passes_past : verdict_next order n w ≡ verdict.Pass
           → Past order m n.at.begin (c + 1) n.outbox
           (insert n.live s (with_status t (passed_status (c + 1) t.status))) n.waiting
       passes_past pass =
           let later = later_past s t judged.there (pass_last pass s t judged.there) in
-          let put = put_past order n h s t (with_status t (passed_status (c + 1) t.status))
-          judged.there (record {
-            unended = λ o. (h.each s t judged.there).unended
-                (still_open t.status judged.waits o);
-            unsent = λ o none. (h.each s t judged.there).unsent
-                (still_open t.status judged.waits o) none;
-            passed = (h.each s t judged.there).passed;
-          }) in
+          let now = with_status t (passed_status (c + 1) t.status) in
           record {
             fresh = h.fresh;
             once = h.once;
-            each = λ q v at. by q v (inserted numbers n.live s
-                (with_status t (passed_status (c + 1) t.status)) q v at);
-            idle = put.idle;
+            each = each_put numbers n.live s (λ _ v. HasPast order m (c + 1) n.outbox v)
+                (λ q v at. later_past q v at (pass_last pass q v at)) now (record {
+                  unended = λ o. later.unended (still_open t.status judged.waits o);
+                  unsent = λ o none. later.unsent (still_open t.status judged.waits o) none;
+                  passed = later.passed;
+                });
+            idle = still_idle order n h s t now judged.there;
           }
-        where
-          by : (q : ℕ) (v : Live)
-              → Inserted numbers n.live s (with_status t (passed_status (c + 1) t.status)) q v
-              → HasPast order m (c + 1) n.outbox v
-          by q v (AtKey here same) = subst (HasPast order m (c + 1) n.outbox) (sym same) (record {
-            unended = λ o. (h.each s t judged.there).unended
-                (still_open t.status judged.waits o);
-            unsent = λ o none. (h.each s t judged.there).unsent
-                (still_open t.status judged.waits o) none;
-            passed = (later_past s t judged.there (pass_last pass s t judged.there)).passed;
-          })
-          by q v (Elsewhere differs at) = later_past q v at (pass_last pass q v at)
 
       fails_past : (o : Option Reply) → Past order m n.at.begin (c + 1) n.outbox (remove n.live s)
           (with_reply n.waiting s o)
@@ -210,11 +177,8 @@ module _ (order : List Event) (n : ModelNode) (f : Facts order n) where
 
 -- ---- the flags of what is sent
 fragment_no_end : (t : Live) (serial seen : ℕ) → is_end (fragment_of t serial seen) ≡ false
-fragment_no_end t serial seen = by (t.sent == 0)
-  where
-    by : (b : Bool) → (cond b 1 0 == 2) || (cond b 1 0 == 3) ≡ false
-    by true = refl
-    by false = refl
+fragment_no_end t serial seen =
+    cond_both (t.sent == 0) 1 0 (λ k. k == 2 || k == 3 ≡ false) (λ _. refl) (λ _. refl)
 
 unlocked_open : (from to : Status) → Unlocked from to → is_uncommitted to ≡ true
     → is_uncommitted from ≡ true

@@ -1,20 +1,17 @@
 -- A verdict by which another came first names an earlier write set that passed: a commit whose keys
 -- conflict, or a fragment of another open transaction whose keys touch.
-use Rattle.std.proofs.Common.{◌≡◌, ℕ, zero, suc, ◌+◌, ◌≤◌, ◌<◌, Bool, true, false, cond, List, [], ◌∷◌, inl, inr, length, map, Option, Some, None, refl, ap, sym, subst, ◌∙◌, arith, add-one, ltb-true, ltb-false}
+use Rattle.std.proofs.Common.{◌≡◌, ℕ, zero, suc, ◌+◌, ◌≤◌, Bool, true, false, cond, List, [], ◌∷◌, inl, inr, length, map, Option, Some, None, refl, ap, sym, subst, ◌∙◌, arith, add-one}
 use Rattle.std.specs.Prelude.{T, ◌&&◌, slice_get, nat_lt, max, unwrap_or}
 use Rattle.std.specs.List.{AllByRecursion, filter}
-use Rattle.std.specs.Ordering.{is_lt, is_eq, eq_by_cmp}
-use Rattle.std.specs.declared.cmp.Ordering.{Ordering}
-use Rattle.std.specs.declared.cmp.Ordering.TheVariants.{Less, Equal, Greater}
+use Rattle.std.specs.Ordering.{is_lt, eq_by_cmp}
 use Rattle.std.specs.FinMap.Entries.{find, is_sorted, below_all}
-use Rattle.std.proofs.lemmas.Bool.{and_parts}
+use Rattle.std.proofs.lemmas.Bool.{and_parts, cases_lt}
 use Rattle.std.proofs.lemmas.Option.{same_Some, slice_get_within}
 use Rattle.finite_map.specs.FiniteMap.{FiniteMap, get, remove, get-empty, get-entries}
 use Rattle.finite_map.proofs.Edits.{IsKeyOrder, tied, itself, untied, left}
 use Rattle.wsrep_base.specs.declared.ids.TrxId.{TrxId}
 use Rattle.wsrep_base.specs.declared.verdict.Verdict.{Verdict}
 use Rattle.wsrep_base.specs.declared.verdict.Verdict.TheVariants as verdict
-use Rattle.wsrep_base.specs.declared.verdict.Judged.TheVariants as became
 use Rattle.wsrep_base.specs.Trx.{trx_cmp, greatest}
 use Rattle.key_sets.specs.Keys.{Keys, conflicts, touches}
 use Rattle.key_sets.proofs.ListLemmas.{In, from_flat}
@@ -74,16 +71,13 @@ numbered_below above most (d ∷ ds) c rise (inr i) = numbered_below d.number mo
 greater_by : (n : ℕ) (ns : List ℕ) (o : Option ℕ) (v : ℕ) → greatest ns ≡ o
     → max n (unwrap_or o n) ≡ v → ((v : ℕ) → greatest ns ≡ Some v → In v ns) → In v (n ∷ ns)
 greater_by n ns None v is same rest = let here : v ≡ n = omega (arith, same) in inl here
-greater_by n ns (Some k) v is same rest = by (nat_lt n k) refl
-  where
-    by : (b : Bool) → nat_lt n k ≡ b → In v (n ∷ ns)
-    by true less =
-        let below : n < k = ltb-true n k less in
-        let there : k ≡ v = omega (arith, same, below) in
-        inr (subst (λ x. In x ns) there (rest k is))
-    by false less =
-        let above : k ≤ n = ltb-false n k less in
-        let here : v ≡ n = omega (arith, same, above) in inl here
+greater_by n ns (Some k) v is same rest =
+    elim (cases_lt n k) [
+      | inl less ↦
+          let there : k ≡ v = omega (arith, same, less) in
+          inr (subst (λ x. In x ns) there (rest k is))
+      | inr more ↦ let here : v ≡ n = omega (arith, same, more) in inl here
+    ]
 
 greatest-in : (ns : List ℕ) (v : ℕ) → greatest ns ≡ Some v → In v ns
 greatest-in [] v is = cc
@@ -95,11 +89,6 @@ greatest-in (n ∷ ns) v is =
 transactions : IsKeyOrder trx_cmp
 transactions = record { total = trx_total; exact = trx_exact }
 
-below_not_same : (o : Ordering) → T (is_lt o) → is_eq o ≡ false
-below_not_same Less h = refl
-below_not_same Equal h = absurd h
-below_not_same Greater h = absurd h
-
 both_true : (a b : Bool) → T (a && b) → T a × T b
 both_true true b h = (tt, h)
 both_true false b h = absurd h
@@ -109,9 +98,8 @@ module _ {X : Type 0} where
       → find trx_cmp p es ≡ None
   below_none p [] h = refl
   below_none p (e ∷ es) h =
-      let less = both_true _ _ h in
-      ap (λ b. cond b (Some e.1) (find trx_cmp p es)) (below_not_same (trx_cmp p e.0) less.0)
-      ∙ below_none p es less.1
+      let less = both_true (is_lt (trx_cmp p e.0)) (below_all trx_cmp p es) h in
+      grind (arith, less.0, below_none p es less.1)
 
   not_here : (q : TrxId) (v : X) (e : TrxId × X) (es : List (TrxId × X)) (b : Bool)
       → eq_by_cmp trx_cmp q e.0 ≡ b → find trx_cmp e.0 es ≡ None → find trx_cmp q es ≡ Some v
@@ -166,9 +154,8 @@ conflict_earlier order n seen v keys inside is =
 
 -- ---- a fragment
 -- an open fragment comes from an event that passed as one
-pub record IsFragmentAt (order : List Event) (n : ℕ) (trx : TrxId) (f : Fragment) : Type 0 where
+pub record IsFragmentOf (order : List Event) (trx : TrxId) (f : Fragment) : Type 0 where
   pub before : ℕ
-  pub within : before < n
   pub number : f.number ≡ suc before
   pub set : WriteSet
   pub write : IsWriteAt order before trx set
@@ -177,38 +164,13 @@ pub record IsFragmentAt (order : List Event) (n : ℕ) (trx : TrxId) (f : Fragme
   pub no_rollback : is_rollback set ≡ false
   pub keys : set.keys ≡ f.keys
 
-at_next : (order : List Event) (n : ℕ) (trx : TrxId) (f : Fragment) → IsFragmentAt order n trx f
-    → IsFragmentAt order (suc n) trx f
-at_next order n trx f h = record {
-  before = h.before;
-  within = omega (arith, h.within);
-  number = h.number;
-  set = h.set;
-  write = h.write;
-  passes = h.passes;
-  no_end = h.no_end;
-  no_rollback = h.no_rollback;
-  keys = h.keys;
-}
+-- among the first n
+abbrev pub IsFragmentAt : List Event → ℕ → TrxId → Fragment → Type 0
+IsFragmentAt order n trx f = IsFragmentOf order trx f × (f.number ≤ n)
 
 adds_by : (w : WriteSet) (v : Verdict) → effect_of (judged_as w v) ≡ Adds
     → (v ≡ verdict.Pass) × (is_end w ≡ false) × (is_rollback w ≡ false)
-adds_by w verdict.Pass h = by (is_rollback w) (is_end w) h
-  where
-    by : (back last : Bool)
-        → effect_of (cond back became.Rollback (cond last became.Commit became.Fragment)) ≡ Adds
-        → (verdict.Pass ≡ verdict.Pass) × (last ≡ false) × (back ≡ false)
-    by true last h = cc
-    by false true h = cc
-    by false false h = (refl, refl, refl)
-adds_by w verdict.Malformed h = cc
-adds_by w verdict.Stranger h = cc
-adds_by w verdict.Repeat h = cc
-adds_by w verdict.Future h = cc
-adds_by w verdict.Stale h = cc
-adds_by w verdict.Broken h = cc
-adds_by w (verdict.Conflict v) h = cc
-adds_by w (verdict.Held v) h = cc
+adds_by w v h = (grind arith, grind arith, grind arith)
 
 abbrev EachAt : List Event → ℕ → TrxId → List Fragment → Type 0
 EachAt order n trx fragments = AllByRecursion (IsFragmentAt order n trx) fragments
@@ -217,8 +179,8 @@ module _ (order : List Event) (n : ℕ) (trx : TrxId) where
   each_next : (fragments : List Fragment) → EachAt order n trx fragments
       → EachAt order (suc n) trx fragments
   each_next fragments all =
-      all_each (IsFragmentAt order n trx) (IsFragmentAt order (suc n) trx) (at_next order n trx)
-      fragments all
+      all_each (IsFragmentAt order n trx) (IsFragmentAt order (suc n) trx)
+      (λ f h. (h.0, omega (arith, h.1))) fragments all
 
   fewer_next : (s : FoldState) → Fewer (state_at order n) s trx
       → EachAt order n trx (fragments_of (state_at order n) trx)
@@ -236,9 +198,8 @@ module _ (order : List Event) (n : ℕ) (trx : TrxId) where
       let home = of_sender s member w passed.0 in
       let inside = slice_get_within order n e there in
       let sender : member ≡ trx.member = sym home ∙ ap (λ (x : TrxId). x.member) of_trx in
-      let new : IsFragmentAt order (suc n) trx (fragment_by s w) = record {
+      let new : IsFragmentOf order trx (fragment_by s w) = record {
         before = n;
-        within = omega arith;
         number = ap (λ k. k + 1) (number-at order n (omega (arith, inside))) ∙ add-one n;
         set = w;
         write = record {
@@ -254,7 +215,7 @@ module _ (order : List Event) (n : ℕ) (trx : TrxId) where
       } in
       subst (EachAt order (suc n) trx) (sym now)
       (all_push (IsFragmentAt order (suc n) trx) (fragments_of s trx) (fragment_by s w)
-      (each_next (fragments_of s trx) all) new)
+      (each_next (fragments_of s trx) all) (new, omega (arith, new.number)))
 
   order_next : (o : Option Event) → slice_get order n ≡ o
       → EachAt order n trx (fragments_of (state_at order n) trx)
@@ -310,47 +271,16 @@ held_earlier order n v trx keys is =
     }
 
 -- ---- the verdict
-abbrev chain : Bool → Bool → Bool → Bool → Bool → Bool → Option ℕ → Option ℕ → Verdict
-chain a b c d back broken o h =
-    cond a verdict.Stranger (cond b verdict.Repeat (cond c verdict.Future (cond d verdict.Stale
-    (cond back verdict.Pass (cond broken verdict.Broken (conflict_or_held o h))))))
-
-conflict_by : (a b c d back broken : Bool) (o h : Option ℕ) (v : ℕ)
-    → chain a b c d back broken o h ≡ verdict.Conflict v → (o ≡ Some v) × (back ≡ false)
-conflict_by true b c d back broken o h v is = cc
-conflict_by false true c d back broken o h v is = cc
-conflict_by false false true d back broken o h v is = cc
-conflict_by false false false true back broken o h v is = cc
-conflict_by false false false false true broken o h v is = cc
-conflict_by false false false false false true o h v is = cc
-conflict_by false false false false false false (Some k) h v is = (cc, refl)
-conflict_by false false false false false false None (Some f) v is = cc
-conflict_by false false false false false false None None v is = cc
-
-held_verdict_by : (a b c d back broken : Bool) (o h : Option ℕ) (v : ℕ)
-    → chain a b c d back broken o h ≡ verdict.Held v → (h ≡ Some v) × (back ≡ false)
-held_verdict_by true b c d back broken o h v is = cc
-held_verdict_by false true c d back broken o h v is = cc
-held_verdict_by false false true d back broken o h v is = cc
-held_verdict_by false false false true back broken o h v is = cc
-held_verdict_by false false false false true broken o h v is = cc
-held_verdict_by false false false false false true o h v is = cc
-held_verdict_by false false false false false false (Some k) h v is = cc
-held_verdict_by false false false false false false None (Some f) v is = (cc, refl)
-held_verdict_by false false false false false false None None v is = cc
-
 pub conflict_is : (s : FoldState) (m : ℕ) (w : WriteSet) (v : ℕ)
     → rules.verdict s m w ≡ verdict.Conflict v
     → (conflict_of s w.last_seen w.keys ≡ Some v) × (is_rollback w ≡ false)
 unfolding rules.verdict
 conflict_is s m w v is =
-    conflict_by _ _ _ _ (is_rollback w) (is_broken s w) (conflict_of s w.last_seen w.keys)
-    (held_by s (trx_of w) w.keys) v is
+    grind arith
 
 pub held_is : (s : FoldState) (m : ℕ) (w : WriteSet) (v : ℕ)
     → rules.verdict s m w ≡ verdict.Held v
     → (held_by s (trx_of w) w.keys ≡ Some v) × (is_rollback w ≡ false)
 unfolding rules.verdict
 held_is s m w v is =
-    held_verdict_by _ _ _ _ (is_rollback w) (is_broken s w) (conflict_of s w.last_seen w.keys)
-    (held_by s (trx_of w) w.keys) v is
+    grind arith

@@ -146,11 +146,9 @@ module _ (i : ℕ) where
       says : Now s.now d.order s.node
       says =
           let size = laws.sound.size in
-          subst (λ ks. Now ks d.order s.node) (sym now_is)
-          (subst (λ o. Now k.former o s.node) (sym order_is)
-          (subst (λ m. Now k.former c.order m) (sym node_is)
-          (call_says most (omega (arith, few)) (at_node c.order n k.former) askers h session call
-          (subst ActFits is fits.0) (omega (arith, size, few)))))
+          rw (now_is, order_is, node_is) (call_says most (omega (arith, few))
+          (at_node c.order n k.former) askers h session call (subst ActFits is fits.0)
+          (omega (arith, size, few)))
 
       called_right : IsRightTo (run steps d).1.order n.at.committed (get askers session)
           (is_some (get n.waiting session)) told_now
