@@ -161,8 +161,9 @@ module _ (order : List Event) (n : ModelNode) (f : Facts order n) (h : Pasts ord
       (λ _. served_told o c there idle)))
 
   -- no client call leaves a new answer
-  first_waits : (o : Option Reply) (x : Reply × ModelNode) → x.1.waiting ≡ n.waiting → (q : ℕ) (r : Reply)
-      → get (told_first n s o x).1.waiting q ≡ Some r → get n.waiting q ≡ Some r
+  first_waits : (o : Option Reply) (x : Reply × ModelNode) → x.1.waiting ≡ n.waiting
+      → (q : ℕ) (r : Reply) → get (told_first n s o x).1.waiting q ≡ Some r
+      → get n.waiting q ≡ Some r
   first_waits (Some waiting) x same q r is = (left numbers n.waiting s q r is).there
   first_waits None x same q r is =
       sym (ap (λ (y : FiniteMap nat_cmp Reply). get y q) same) ∙ is

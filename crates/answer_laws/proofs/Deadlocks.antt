@@ -12,6 +12,7 @@ use Rattle.order_event.specs.declared.event.Event.{Event}
 use Rattle.order_event.specs.declared.event.Event.TheVariants as event
 use Rattle.write_set.specs.declared.write_set.WriteSet.{WriteSet}
 use Rattle.std.proofs.lemmas.Option.{same_Some, slice_get_within}
+use Rattle.std.proofs.lemmas.Bool.{or_parts, or_right, true_from_ne_false, not_from_false}
 use Rattle.cert_meaning.specs.declared.items.CommitItem.{CommitItem}
 use Rattle.cert_meaning.specs.State.{FoldState, is_open, fragments_of, fragment_keys}
 use Rattle.cert_meaning.specs.Verdict as rules
@@ -35,7 +36,6 @@ use Rattle.answer_laws.proofs.Pasts.{Pasts}
 use Rattle.answer_laws.proofs.Claims.{Unended, Failed, IsBarred, Defeats}
 use Rattle.answer_laws.proofs.Causes.{fails_behind, not_own, shut_ended}
 use Rattle.answer_laws.proofs.Prevailing.{conflict_earlier, held_earlier, conflict_is, held_is}
-use Rattle.std.proofs.lemmas.Bool.{or_parts, or_right, true_from_ne_false, not_from_false}
 
 -- ---- what the write set that waits for its verdict says of its transaction
 record IsHead (s : FoldState) (t : Live) (w : WriteSet) : Type 0 where

@@ -11,11 +11,11 @@ use Rattle.node_laws.proofs.TakeMoves.{take_moves}
 use Rattle.node_laws.proofs.CertifyMoves.{certify_moves}
 use Rattle.node_laws.proofs.UnitMoves.{CanTakeBack, start_moves, finish_moves}
 use Rattle.node_laws.proofs.AdvanceMoves.{advance_moves}
+use Rattle.course_laws.specs.Courses.{Course}
 use Rattle.answer_laws.specs.Answers.{Asker}
 use Rattle.answer_laws.proofs.Telling.{Stays, Waits, Tells, still_waits, still_kept}
 use Rattle.answer_laws.proofs.NodeSteps.{take_tells, certify_tells, finish_tells, advance_tells}
 use Rattle.answer_laws.proofs.Kills.{start_waits}
-use Rattle.course_laws.specs.Courses.{Course}
 
 -- a node whose answers that wait are right, with its numbers in range
 pub record OnWay (former : List ℕ) (order : List Event) (member most : ℕ)
@@ -56,7 +56,8 @@ module _ (most : ℕ) (few : most ≤ 2 ^ 63) (c : Course) (askers : FiniteMap n
       → Way m
   by_tells n m h row tells =
       by_row n m h row
-      (still_waits c.former order c.node.at.member (Unit {0}) tt n m row h.stays askers h.waits tells)
+      (still_waits c.former order c.node.at.member (Unit {0}) tt n m row h.stays askers h.waits
+      tells)
 
   pub take_way : (n : ModelNode) → Way n → Way (take_step order n).1
   take_way n h = by_tells n _ h (take_moves order (Unit {0}) true n) (take_tells order n)

@@ -4,6 +4,7 @@ use Rattle.std.proofs.Common.{◌≡◌, ℕ, ◌≤◌, ◌<◌, Bool, true, Li
 use Rattle.std.specs.Prelude.{◌==◌, ◌||◌, map}
 use Rattle.std.specs.List.{AllByRecursion, list_any}
 use Rattle.std.specs.Ordering.{nat_cmp}
+use Rattle.std.proofs.lemmas.Bool.{or_cases, or_right}
 use Rattle.finite_map.specs.FiniteMap.{FiniteMap}
 use Rattle.order_event.specs.declared.event.Event.{Event}
 use Rattle.order_event.specs.declared.event.Event.TheVariants as event
@@ -23,7 +24,6 @@ use Rattle.answer_laws.proofs.Pasts.{Pasts}
 use Rattle.answer_laws.proofs.Claims.{ClaimOf, Claim}
 use Rattle.answer_laws.proofs.Grown.{past_grown, claim_grown, silent_same}
 use Rattle.answer_laws.proofs.Ending.{IsWithin, claim_right}
-use Rattle.std.proofs.lemmas.Bool.{or_cases, or_right}
 
 -- what an answer claims of a transaction of a former member, on a node that has committed so many
 -- events: the node as it was with that member claims it, and nothing of it waits to be ordered

@@ -8,6 +8,7 @@ use Rattle.order_event.specs.declared.event.Event.TheVariants as event
 use Rattle.order_event.specs.declared.event.Message.{Message}
 use Rattle.order_event.specs.declared.step.Act.{Act}
 use Rattle.order_event.specs.declared.step.Act.TheVariants as act
+use Rattle.order_event.specs.declared.step.Answer.{Answer}
 use Rattle.group_order.specs.Order.{event_of, last_view, all_but, new_member, view_with}
 use Rattle.node_meaning.specs.Node.{ModelNode, is_left, is_joining}
 use Rattle.node_meaning.specs.Leaving.{left_node}
@@ -29,6 +30,7 @@ use Rattle.course_laws.specs.Kept.{CourseKept}
 use Rattle.course_laws.proofs.Following.{client_still}
 use Rattle.course_laws.proofs.CourseLaws.{own_kept}
 use Rattle.course_laws.proofs.KeptLaws.{kept_laws}
+use Rattle.course_laws.proofs.Growing.{others_silent}
 use Rattle.answer_laws.proofs.Pasts.{Pasts}
 use Rattle.answer_laws.proofs.Grown.{SameSent, own_same, past_grown, claim_grown, silent_same}
 use Rattle.answer_laws.proofs.Former.{Own, Old, AllSilent, AreApart, all_apart, others_silent_all, own_silent_all, view_silent_all, before_grown}
@@ -36,8 +38,6 @@ use Rattle.answer_laws.proofs.Telling.{Stays, Still, still_kept, paid_kept}
 use Rattle.answer_laws.proofs.Leaving.{left_past, left_claimed}
 use Rattle.answer_laws.proofs.Joining.{IsIdle, joined_past, snapshot_past, joined_claimed, snapshot_claimed}
 use Rattle.answer_laws.proofs.NodeSteps.{status_same}
-use Rattle.course_laws.proofs.Growing.{others_silent}
-use Rattle.order_event.specs.declared.step.Answer.{Answer}
 
 -- ---- over an order that grows by nothing of a former member
 module _ (former : List ℕ) (order more : List Event) (silent : AllSilent former more)

@@ -3,6 +3,7 @@ use Rattle.std.proofs.Common.{◌≡◌, ℕ, ◌≤◌, true, List, [], ◌∷�
 use Rattle.std.specs.Prelude.{fold, is_some}
 use Rattle.std.specs.Ordering.{nat_cmp}
 use Rattle.std.proofs.lemmas.Option.{same_Some}
+use Rattle.std.proofs.lemmas.Bool.{cond_both}
 use Rattle.finite_map.specs.FiniteMap.{FiniteMap, get, insert}
 use Rattle.wsrep_base.specs.Trx.{greatest}
 use Rattle.key_sets.specs.Keys.{touches}
@@ -30,7 +31,6 @@ use Rattle.course_laws.proofs.PendingSets.{within_order}
 use Rattle.answer_laws.specs.Answers.{Asker, asker_of}
 use Rattle.answer_laws.proofs.Causes.{shut_ended, shut_back, unit_defeats}
 use Rattle.answer_laws.proofs.Telling.{Stays, Waits, Tells, same_tells, put_tells, end_tells, still_waits, still_kept}
-use Rattle.std.proofs.lemmas.Bool.{cond_both}
 
 module _ (order : List Event) (member number : ℕ) (item : CommitItem)
     (is : commit_at order number ≡ Some item) where

@@ -3,6 +3,7 @@
 use Rattle.std.proofs.Common.{◌≡◌, ℕ, ◌+◌, Bool, true, false, cond, List, Option, Some, None, refl, ap, sym, subst, ◌∙◌, add-one, arith}
 use Rattle.std.specs.Prelude.{◌==◌, slice_get}
 use Rattle.std.specs.List.{find}
+use Rattle.std.proofs.lemmas.Bool.{cond_both}
 use Rattle.finite_map.specs.FiniteMap.{get}
 use Rattle.wsrep_base.specs.declared.verdict.Verdict.{Verdict}
 use Rattle.wsrep_base.specs.declared.verdict.Verdict.TheVariants as verdict
@@ -32,7 +33,6 @@ use Rattle.answer_laws.proofs.Claims.{Claim, Stands}
 use Rattle.answer_laws.proofs.Causes.{commit_stands}
 use Rattle.answer_laws.proofs.Deadlocks.{cert_defeats}
 use Rattle.answer_laws.proofs.Telling.{Tells, same_tells, put_tells, end_tells}
-use Rattle.std.proofs.lemmas.Bool.{cond_both}
 
 -- ---- reporting
 pub report_waiting : (n : ModelNode) → (report_step n).1.waiting ≡ n.waiting

@@ -3,6 +3,7 @@
 use Rattle.std.proofs.Common.{◌≡◌, ℕ, ◌+◌, ◌≤◌, ◌<◌, Bool, true, false, cond, List, [], ◌∷◌, ◌++◌, Option, Some, None, refl, ap, sym, subst, ◌∙◌, arith, eq-eqb, true≢false, inl, inr}
 use Rattle.std.specs.Prelude.{◌==◌}
 use Rattle.std.specs.Ordering.{nat_cmp, eq_by_cmp}
+use Rattle.std.proofs.lemmas.Bool.{and_parts, cases_Bool, cond_both, false_from_ne_true}
 use Rattle.finite_map.specs.FiniteMap.{FiniteMap, get, insert, remove, get-remove}
 use Rattle.finite_map.proofs.Edits.{numbers, tied, Inserted, AtKey, Elsewhere, inserted, left, get-taken, get-put_beside, each_put, each_left}
 use Rattle.wsrep_base.specs.declared.ids.TrxId.{TrxId}
@@ -28,7 +29,6 @@ use Rattle.course_laws.proofs.PendingSets.{sets_lined}
 use Rattle.answer_laws.specs.Answers.{IsWriteAt, PassesAt}
 use Rattle.answer_laws.specs.Counting.{is_of, is_end_of, count_sent}
 use Rattle.answer_laws.proofs.Counted.{sent-one, sent-report, one_there, no_ends, end_of_other, no_end}
-use Rattle.std.proofs.lemmas.Bool.{and_parts, cases_Bool, cond_both, false_from_ne_true}
 
 -- ---- what is kept
 -- of a live transaction, among the events that are certified

@@ -2,6 +2,7 @@
 use Rattle.std.proofs.Common.{◌≡◌, ℕ, ◌+◌, ◌≤◌, true, false, List, length, Option, Some, None, refl, ap, sym, subst, ◌∙◌, arith, eq-eqb, true≢false, inl, inr}
 use Rattle.std.specs.Prelude.{◌==◌, ◌||◌, slice_get}
 use Rattle.std.proofs.lemmas.Option.{same_Some}
+use Rattle.std.proofs.lemmas.Bool.{cases_lt, cond_both}
 use Rattle.finite_map.specs.FiniteMap.{get, insert, remove}
 use Rattle.finite_map.proofs.Edits.{numbers, untied, left, each_put}
 use Rattle.wsrep_base.specs.declared.ids.TrxId.{TrxId}
@@ -32,7 +33,6 @@ use Rattle.course_laws.proofs.PendingSets.{sets_lined, within_order, own_next}
 use Rattle.course_laws.proofs.Certifying.{own_decided}
 use Rattle.answer_laws.specs.Answers.{IsWriteAt, PassesAt}
 use Rattle.answer_laws.proofs.Pasts.{HasPast, Past, Pasts, put_past, gone_past, begun_past, reported_past, sent_past, last_past, fragment_past, commit_past, still_idle}
-use Rattle.std.proofs.lemmas.Bool.{cases_lt, cond_both}
 
 module _ (order : List Event) (n : ModelNode) (f : Facts order n) where
   abbrev m : ℕ

@@ -109,7 +109,8 @@ module _ (i : ℕ) where
     unfolding next_node
     right =
         let was = at_node c.order n k.former in
-        subst (λ (x : Course). RightSoFar (most + 1) x (asked_by x.node.live.entries askers)) s.leads
+        subst (λ (x : Course). RightSoFar (most + 1) x (asked_by x.node.live.entries askers))
+        s.leads
         (next_right most (omega (arith, few)) was askers h s.happens s.fits
         (subst (λ (x : Course). length x.order ≤ 2 ^ 63) (sym s.leads)
         (short_next most small c laws step fits.0 members)))

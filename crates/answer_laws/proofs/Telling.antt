@@ -133,8 +133,8 @@ module _ (order : List Event) (n m : ModelNode) where
         each_left numbers n.live s Was (λ p x is. (x, is, refl)) q v
         (sym (ap (λ (x : FiniteMap nat_cmp Live). get x q) live) ∙ at);
     told = λ q x at.
-        each_put numbers n.waiting s (Told order n m) (λ p y is. inl is) r (inr (t, there, claim)) q x
-        (sym (ap (λ (y : FiniteMap nat_cmp Reply). get y q) waiting) ∙ at);
+        each_put numbers n.waiting s (Told order n m) (λ p y is. inl is) r (inr (t, there, claim))
+        q x (sym (ap (λ (y : FiniteMap nat_cmp Reply). get y q) waiting) ∙ at);
   }
 
 -- the answers that wait after it are right

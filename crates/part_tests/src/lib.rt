@@ -1,5 +1,5 @@
-//! Tests over the public calls of parts that no node uses yet: each call that can answer that there
-//! is no memory is made once where it is ample. It has nothing else.
+//! Tests over the public calls of parts by themselves: each call that can answer that there is no
+//! memory is made once where it is ample. It has nothing else.
 #![tactic(auto)]
 
 #[cfg(test)]
