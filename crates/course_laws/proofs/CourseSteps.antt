@@ -1,6 +1,7 @@
 -- What is kept of a course is kept whatever happens next.
-use Rattle.std.proofs.Common.{◌≡◌, ℕ, ◌+◌, ◌≤◌, ◌<◌, ◌^◌, Bool, true, false, cond, List, [], ◌∷◌, ◌++◌, length, None, refl, sym, subst, ◌∙◌, arith}
+use Rattle.std.proofs.Common.{◌≡◌, ℕ, ◌+◌, ◌≤◌, ◌<◌, ◌^◌, true, false, cond, List, [], ◌∷◌, ◌++◌, length, refl, sym, subst, ◌∙◌, arith, Bool}
 use Rattle.std.specs.Prelude.{◌==◌, ◌||◌, ◌&&◌, map}
+use Rattle.std.proofs.lemmas.Bool.{cond_both}
 use Rattle.std.specs.List.{AllByRecursion}
 use Rattle.order_event.specs.declared.event.Event.{Event}
 use Rattle.order_event.specs.declared.event.Message.{Message}
@@ -13,7 +14,6 @@ use Rattle.node_meaning.specs.Joining.{received_events, received_snapshot}
 use Rattle.node_meaning.specs.Steps.{first_sent, node_step, drained}
 use Rattle.node_meaning.specs.Leaving.{left_node}
 use Rattle.node_laws.specs.Fits.{ActFits}
-use Rattle.node_laws.specs.InStep.{message_of}
 use Rattle.node_laws.proofs.Moves.{with_ordered}
 use Rattle.node_laws.proofs.LastMember.{last-grows}
 use Rattle.node_laws.proofs.SetLists.{equal, unequal, all_each}
@@ -23,7 +23,7 @@ use Rattle.course_laws.specs.Kept.{Kept, CourseKept}
 use Rattle.course_laws.proofs.LastMember.{member_below}
 use Rattle.course_laws.proofs.Growing.{others_silent, decided_still}
 use Rattle.course_laws.proofs.Viewed.{without_other, has_last, any_last, viewed_joined, viewed_grown, next_viewed}
-use Rattle.course_laws.proofs.CourseLaws.{step_kept, others_kept, first_kept, left_kept, drain_kept}
+use Rattle.course_laws.proofs.CourseLaws.{same_kept, step_kept, others_kept, first_kept, left_kept, drain_kept}
 use Rattle.course_laws.proofs.Joining.{last_is, joined_kept, took_kept, installed_kept}
 
 -- ---- members that the node was before
@@ -37,12 +37,6 @@ former_grown order more k out h = record {
   decided = decided_still order more k h.decided (others_silent k true more out);
   viewed = viewed_grown k true order more out h.viewed;
 }
-
-all_former : (order more : List Event) (ks : List ℕ) → AllByRecursion (AreOut more) ks
-    → AllByRecursion (FormerLaws order) ks → AllByRecursion (FormerLaws (order ++ more)) ks
-all_former order more [] out all = tt
-all_former order more (k ∷ ks) out all =
-    (former_grown order more k out.0 all.0, all_former order more ks out.1 all.1)
 
 pub all_two : (P Q R : ℕ → Type 0) → ((k : ℕ) → P k → Q k → R k) → (ks : List ℕ)
     → AllByRecursion P ks → AllByRecursion Q ks → AllByRecursion R ks
@@ -62,80 +56,62 @@ sent_out_of member k (message.Write body ∷ ms) below =
 sent_out_of member k (message.Report number ∷ ms) below =
     (differs k member below, sent_out_of member k ms below)
 
--- the view that such a member leaves behind
-left_out : (order : List Event) (member k : ℕ) → k < member → FormerLaws order k
-    → AreOut (view_without order member ∷ []) k
-left_out order member k below h =
-    (without_other k member (last_view order).1 (λ same. omega (arith, same, below)) ∙ h.viewed, tt)
-
--- and that with which it enters
-joined_out : (order : List Event) (member k : ℕ) → k < member → IsViewed order k true
+-- and the view with which it enters
+joined_out : (order : List Event) (member k : ℕ) → k < member → FormerLaws order k
     → AreOut (view_with order member ∷ []) k
-joined_out order member k below out = (
-  any_last k member (last_view order).1
-      ∙ (λ i. out i || differs k member below i),
-  tt,
-)
+joined_out order member k below h =
+    (any_last k member (last_view order).1 ∙ (λ i. h.viewed i || differs k member below i), tt)
 
 -- ---- one course
-module _ (most : ℕ) (few : most ≤ 2 ^ 63) (c : Course) (h : CourseKept most c) where
-  abbrev n : ModelNode
-  n = c.node
+abbrev Viewed : Course → Type 0
+Viewed c = IsViewed c.order c.node.at.member (is_left c.node.at.phase)
 
+module _ (most : ℕ) (few : most ≤ 2 ^ 63) (c : Course) (h : CourseKept most c) where
   -- ---- its node's member stays
-  -- over an order that grows
+  -- over an order in which no member is lost
+  still_kept : (order : List Event) (m : ModelNode) → Kept c.node.at.member (most + 1) order m
+      → IsViewed order m.at.member (is_left m.at.phase)
+      → last_member c.order ≤ last_member order
+      → AllByRecursion (FormerLaws order) c.former
+      → CourseKept (most + 1) (record c { order = order; node = m })
+  still_kept order m k viewed more former =
+      let same : c.node.at.member ≡ m.at.member = sym k.follows.home in record {
+        kept = subst (λ x. Kept x (most + 1) order m) same k;
+        small = subst (λ x. x < 2 ^ 32) same h.small;
+        viewed = viewed;
+        known = omega (arith, h.known, more, same);
+        below = subst (λ x. AllByRecursion (λ j. j < x) c.former) same h.below;
+        former = former;
+      }
+
+  all_former : (more : List Event) → AllByRecursion (AreOut more) c.former
+      → AllByRecursion (FormerLaws (c.order ++ more)) c.former
+  all_former more out =
+      all_two _ _ _ (former_grown c.order more) c.former out h.former
+
+  -- over one that grows
   grown_kept : (more : List Event) (m : ModelNode)
       → Kept c.node.at.member (most + 1) (c.order ++ more) m
       → IsViewed (c.order ++ more) m.at.member (is_left m.at.phase)
       → AllByRecursion (AreOut more) c.former
       → CourseKept (most + 1) (record c { order = c.order ++ more; node = m })
   grown_kept more m k viewed out =
-      let same : c.node.at.member ≡ m.at.member = sym k.follows.home in
-      let up = last-grows c.order more in record {
-        kept = subst (λ x. Kept x (most + 1) (c.order ++ more) m) same k;
-        small = subst (λ x. x < 2 ^ 32) same h.small;
-        viewed = viewed;
-        known = subst (λ x. x ≤ last_member (c.order ++ more)) same (omega (arith, h.known, up));
-        below = subst (λ x. AllByRecursion (λ j. j < x) c.former) same h.below;
-        former = all_former c.order more c.former out h.former;
-      }
+      still_kept (c.order ++ more) m k viewed (last-grows c.order more) (all_former more out)
 
   -- over the same
   here_kept : (m : ModelNode) → Kept c.node.at.member (most + 1) c.order m
       → IsViewed c.order m.at.member (is_left m.at.phase)
       → CourseKept (most + 1) (record c { node = m })
-  here_kept m k viewed =
-      let same : c.node.at.member ≡ m.at.member = sym k.follows.home in record {
-        kept = subst (λ x. Kept x (most + 1) c.order m) same k;
-        small = subst (λ x. x < 2 ^ 32) same h.small;
-        viewed = viewed;
-        known = subst (λ x. x ≤ last_member c.order) same h.known;
-        below = subst (λ x. AllByRecursion (λ j. j < x) c.former) same h.below;
-        former = h.former;
-      }
+  here_kept m k viewed = still_kept c.order m k viewed (omega arith) h.former
 
   -- nothing is done
-  same_kept : CourseKept (most + 1) c
-  same_kept = record {
-    kept = record {
-      follows = h.kept.follows;
-      decided = h.kept.decided;
-      none_behind = h.kept.none_behind;
-      serial = omega (arith, h.kept.serial);
-      begin = omega (arith, h.kept.begin);
-    };
-    small = h.small;
-    viewed = h.viewed;
-    known = h.known;
-    below = h.below;
-    former = h.former;
-  }
+  idle_kept : CourseKept (most + 1) c
+  idle_kept = here_kept c.node (same_kept c.node.at.member most c.order c.node h.kept) h.viewed
 
   sent_former : (ms : List Message)
       → AllByRecursion (AreOut (map (event_of c.node.at.member) ms)) c.former
   sent_former ms =
-      all_each (λ k. k < c.node.at.member) (AreOut (map (event_of c.node.at.member) ms))
-      (λ k below. sent_out_of c.node.at.member k ms below) c.former h.below
+      all_each _ _ (λ k. sent_out_of c.node.at.member k ms) c.former h.below
 
   first_former : (queue : List Message)
       → AllByRecursion (AreOut (first_event c.node queue)) c.former
@@ -143,117 +119,78 @@ module _ (most : ℕ) (few : most ≤ 2 ^ 63) (c : Course) (h : CourseKept most 
   first_former (x ∷ xs) = sent_former (x ∷ [])
 
   -- ---- it leaves
-  leave_by : (b : Bool) → is_left c.node.at.phase ≡ b
-      → IsViewed (cond b c (leave_over c)).order (cond b c (leave_over c)).node.at.member
-      (is_left (cond b c (leave_over c)).node.at.phase)
-      → CourseKept (most + 1) (cond b c (leave_over c))
-  leave_by true is viewed = same_kept
-  leave_by false is viewed =
+  leaves_kept : Viewed (leave_over c) → CourseKept (most + 1) (leave_over c)
+  leaves_kept viewed =
       let more = view_without c.order c.node.at.member ∷ [] in
       grown_kept more (left_node c.node)
       (left_kept c.node.at.member most h.small few c.order c.node h.kept) viewed
-      (all_two (λ k. k < c.node.at.member) (FormerLaws c.order) (AreOut more)
-      (left_out c.order c.node.at.member) c.former h.below h.former)
+      (all_two (λ k. k < c.node.at.member) (FormerLaws c.order) (AreOut more) (λ k below laws. (
+        without_other k c.node.at.member (last_view c.order).1 (λ same. omega (arith, same, below))
+            ∙ laws.viewed,
+        tt,
+      )) c.former h.below h.former)
 
   -- ---- it joins
-  module _ (fresh : Bool) (left : is_left c.node.at.phase ≡ true)
-      (all : c.node.at.taken ≡ c.node.at.committed) (small : new_member c.order < 2 ^ 32)
-      (silent : AllByRecursion (λ (e : Event). message_of (new_member c.order) e ≡ None) c.order)
-    where
-      abbrev member : ℕ
-      member = new_member c.order
-
-      abbrev view : List Event
-      view = view_with c.order (new_member c.order) ∷ []
-
-      old_laws : FormerLaws c.order c.node.at.member
-      old_laws = record {
+  joins_kept : (fresh : Bool) → DoesFit c (act.Join fresh) → is_left c.node.at.phase ≡ true
+      → c.node.at.taken ≡ c.node.at.committed → CourseKept (most + 1) (join_over fresh c)
+  joins_kept fresh fits left all =
+      let member = new_member c.order in
+      let view = view_with c.order member ∷ [] in
+      let new = fits left all in
+      let old : c.node.at.member < new_member c.order = omega (arith, h.known) in
+      let laws : FormerLaws c.order c.node.at.member = record {
         decided = h.kept.decided;
         viewed = subst (IsViewed c.order c.node.at.member) left h.viewed;
+      } in
+      let below = all_each (λ k. k < c.node.at.member) (λ k. k < new_member c.order)
+      (λ k is. omega (arith, is, old)) c.former h.below in record {
+        kept = joined_kept c.node.at.member most c.order c.node h.kept left all fresh new.1;
+        small = new.0;
+        viewed = viewed_joined c.order member;
+        known = member_below (c.order ++ view) member (length c.order) (last_view c.order).0
+            ((last_view c.order).1 ++ member ∷ []) (last_is c.order (view_with c.order member))
+            (has_last member (last_view c.order).1);
+        below = (old, below);
+        former = (
+          former_grown c.order view c.node.at.member
+              (joined_out c.order member c.node.at.member old laws) laws,
+          all_former view (all_two _ _ _ (joined_out c.order member) c.former below h.former),
+        );
       }
-
-      old_below : c.node.at.member < new_member c.order
-      old_below = omega (arith, h.known)
-
-      joins_kept : CourseKept (most + 1) (join_over fresh c)
-      joins_kept =
-          let below =
-          all_each (λ k. k < c.node.at.member) (λ k. k < new_member c.order)
-          (λ k is. omega (arith, is, old_below)) c.former h.below in record {
-            kept = joined_kept c.node.at.member most c.order c.node h.kept left all fresh silent;
-            small = small;
-            viewed = viewed_joined c.order (new_member c.order);
-            known = member_below (c.order ++ view) (new_member c.order) (length c.order)
-                (last_view c.order).0 ((last_view c.order).1 ++ new_member c.order ∷ [])
-                (last_is c.order (view_with c.order (new_member c.order)))
-                (has_last (new_member c.order) (last_view c.order).1);
-            below = (old_below, below);
-            former = (
-              former_grown c.order view c.node.at.member
-                  (joined_out c.order member c.node.at.member old_below old_laws.viewed) old_laws,
-              all_former c.order view c.former
-                  (all_two (λ k. k < new_member c.order) (FormerLaws c.order) (AreOut view)
-                  (λ k is laws. joined_out c.order member k is laws.viewed) c.former below h.former)
-                  h.former,
-            );
-          }
 
   join_by : (fresh : Bool) → DoesFit c (act.Join fresh) → (b d : Bool)
       → is_left c.node.at.phase ≡ b → c.node.at.taken == c.node.at.committed ≡ d
       → CourseKept (most + 1) (cond (b && d) (join_over fresh c) c)
   join_by fresh fits true true left all =
-      let drained = equal c.node.at.taken c.node.at.committed all in
-      let new = fits left drained in joins_kept fresh left drained new.0 new.1
-  join_by fresh fits true false left all = same_kept
-  join_by fresh fits false d left all = same_kept
+      joins_kept fresh fits left (equal c.node.at.taken c.node.at.committed all)
+  join_by fresh fits b d left all = idle_kept
 
   -- ---- all that it does
   step_by : (a : Act) → ActFits a → length c.order ≤ 2 ^ 63
-      → IsViewed c.order (node_step c.order c.node a).1.at.member
-      (is_left (node_step c.order c.node a).1.at.phase)
+      → Viewed (record c { node = (node_step c.order c.node a).1 })
       → CourseKept (most + 1) (record c { node = (node_step c.order c.node a).1 })
-  step_by a fits short viewed =
+  step_by a fits short =
       here_kept (node_step c.order c.node a).1
-      (step_kept c.node.at.member most h.small few c.order c.node h.kept short a fits) viewed
+      (step_kept c.node.at.member most h.small few c.order c.node h.kept short a fits)
 
-  does_kept : (a : Act) → DoesFit c a → length (does c a).order ≤ 2 ^ 63
+  does_kept : (a : Act) → DoesFit c a → length (does c a).order ≤ 2 ^ 63 → Viewed (does c a)
       → CourseKept (most + 1) (does c a)
-  does_kept act.Order fits short =
+  does_kept act.Order fits short viewed =
       grown_kept (first_event c.node c.node.outbox) (first_sent c.node c.node.outbox)
       (first_kept c.node.at.member most h.small few c.order c.node h.kept c.node.outbox refl)
-      (next_viewed c (Does act.Order) tt h.viewed) (first_former c.node.outbox)
-  does_kept act.Drain fits short =
+      viewed (first_former c.node.outbox)
+  does_kept act.Drain fits short viewed =
       let more = map (event_of c.node.at.member) c.node.outbox in
       grown_kept more (drained (c.order ++ more) (with_ordered c.node c.node.outbox []))
-      (drain_kept c.node.at.member most h.small few c.order c.node h.kept short)
-      (next_viewed c (Does act.Drain) tt h.viewed) (sent_former c.node.outbox)
-  does_kept act.Leave fits short =
-      leave_by (is_left c.node.at.phase) refl (next_viewed c (Does act.Leave) tt h.viewed)
-  does_kept (act.Join fresh) fits short =
+      (drain_kept c.node.at.member most h.small few c.order c.node h.kept short) viewed
+      (sent_former c.node.outbox)
+  does_kept act.Leave fits short viewed =
+      cond_both (is_left c.node.at.phase) c (leave_over c)
+      (λ d. Viewed d → CourseKept (most + 1) d) (λ _ _. idle_kept) (λ _. leaves_kept) viewed
+  does_kept (act.Join fresh) fits short viewed =
       join_by fresh fits (is_left c.node.at.phase) (c.node.at.taken == c.node.at.committed) refl
       refl
-  does_kept (act.Client session call) fits short =
-      step_by (act.Client session call) fits short
-      (next_viewed c (Does (act.Client session call)) fits h.viewed)
-  does_kept act.Take fits short =
-      step_by act.Take fits short (next_viewed c (Does act.Take) fits h.viewed)
-  does_kept act.Certify fits short =
-      step_by act.Certify fits short (next_viewed c (Does act.Certify) fits h.viewed)
-  does_kept (act.Start number) fits short =
-      step_by (act.Start number) fits short
-      (next_viewed c (Does (act.Start number)) fits h.viewed)
-  does_kept (act.Finish number) fits short =
-      step_by (act.Finish number) fits short
-      (next_viewed c (Does (act.Finish number)) fits h.viewed)
-  does_kept act.Advance fits short =
-      step_by act.Advance fits short (next_viewed c (Does act.Advance) fits h.viewed)
-  does_kept act.Report fits short =
-      step_by act.Report fits short (next_viewed c (Does act.Report) fits h.viewed)
-  does_kept act.Status fits short =
-      step_by act.Status fits short (next_viewed c (Does act.Status) fits h.viewed)
-  does_kept (act.Transfer donor) fits short =
-      step_by (act.Transfer donor) fits short
-      (next_viewed c (Does (act.Transfer donor)) fits h.viewed)
+  does_kept a fits short viewed = step_by a fits short viewed
 
   pub next_kept : (x : Happens) → Fits c x → length (next c x).order ≤ 2 ^ 63
       → CourseKept (most + 1) (next c x)
@@ -261,7 +198,7 @@ module _ (most : ℕ) (few : most ≤ 2 ^ 63) (c : Course) (h : CourseKept most 
       grown_kept events c.node
       (others_kept c.node.at.member most h.small few c.order c.node h.kept events fits.0)
       (next_viewed c (Others events) fits h.viewed) fits.1
-  next_kept (Does a) fits short = does_kept a fits short
+  next_kept (Does a) fits short = does_kept a fits short (next_viewed c (Does a) fits h.viewed)
   next_kept (Takes last) fits short =
       here_kept (received_events last c.node)
       (took_kept c.node.at.member most c.order c.node h.kept fits.0 last fits.1 fits.2)

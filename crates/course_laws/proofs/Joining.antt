@@ -1,123 +1,62 @@
 -- A node that left joins again as a new member, which nothing in the order knows, and takes the
 -- state that it misses: by the events of a donor, or by a snapshot. What is kept of it is kept then
 -- too.
-use Rattle.std.proofs.Common.{◌≡◌, ℕ, zero, suc, ◌+◌, ◌≤◌, Bool, true, false, cond, List, [], ◌∷◌, ◌++◌, length, drop, take, Option, Some, None, refl, ap, sym, subst, ◌∙◌, arith, true≢false}
-use Rattle.std.specs.Prelude.{◌==◌, slice_get}
+use Rattle.std.proofs.Common.{◌≡◌, ℕ, ◌+◌, ◌≤◌, Bool, true, List, [], ◌∷◌, ◌++◌, length, Some, None, refl, ap, sym, ◌∙◌, arith, true≢false}
+use Rattle.std.specs.Prelude.{slice_get}
 use Rattle.std.specs.List.{filter_map, cons_option}
-use Rattle.std.proofs.lemmas.Option.{same_Some}
 use Rattle.order_event.specs.declared.event.Event.{Event}
-use Rattle.order_event.specs.declared.event.Event.TheVariants as event
-use Rattle.order_event.specs.declared.event.Message.{Message}
-use Rattle.order_event.specs.declared.event.Message.TheVariants as message
 use Rattle.group_order.specs.Order.{last_view, new_member, view_with}
-use Rattle.write_set.specs.Reading.{decoded}
 use Rattle.cert_meaning.specs.Fold.{state_at}
 use Rattle.cert_meaning.proofs.FoldLaws.{number-at}
 use Rattle.node_meaning.specs.Node.{ModelNode, is_left, is_joining}
 use Rattle.node_meaning.specs.Joining.{IsAtRest, joined_node, received_events, received_snapshot}
-use Rattle.node_meaning.specs.Facts.{Facts, own_body, sent_body, pending}
+use Rattle.node_meaning.specs.Facts.{sent_body, pending}
+use Rattle.node_meaning.proofs.CertifyFacts.{drop_one}
 use Rattle.node_meaning.proofs.GrowFacts.{facts_grow}
-use Rattle.node_meaning.proofs.EntryLaws.{some_not_none}
-use Rattle.node_meaning.proofs.Joining.{at_rest as rests, joined_facts, received_facts, installed_facts}
-use Rattle.node_laws.specs.InStep.{message_of, messages_behind}
-use Rattle.course_laws.specs.Ordered.{Keeps, IsUnaware, IsNewcomer, IsEarly, Entered, OrderedFacts, Stage, Early, Since, seen_in, messages_ahead, seen_ahead}
-use Rattle.course_laws.specs.Laws.{OwnAreDecided}
+use Rattle.node_meaning.proofs.Joining.{none_own-behind, joined_facts, received_facts, installed_facts}
+use Rattle.node_laws.specs.InStep.{message_of, messages_behind, IsCleared}
+use Rattle.node_laws.specs.Views.{ViewLacks}
+use Rattle.node_laws.proofs.Joining.{none_from, none_later, none_own, left_rests, in_step_joined, in_step_received, in_step_installed, none_behind_it}
+use Rattle.node_laws.proofs.LastMember.{none_views}
+use Rattle.node_laws.proofs.SetLists.{all_push}
+use Rattle.course_laws.specs.Ordered.{Keeps, IsNewcomer, IsEarly, Entered, Stage, Early, Since, messages_ahead}
 use Rattle.course_laws.specs.Places.{AllKeep, HasJoined, Place, Inside, Entering, Outside}
 use Rattle.course_laws.specs.Kept.{Kept}
 use Rattle.course_laws.proofs.PendingSets.{within_order}
-use Rattle.course_laws.proofs.Newcoming.{newcomer_entered, silent_unaware}
-use Rattle.course_laws.proofs.LastMember.{view_lacks}
-use Rattle.course_laws.proofs.Growing.{AreSilent, front_get, Where, Before, Behind, where_is, all_at, none_behind_kept, own_is}
+use Rattle.course_laws.proofs.Newcoming.{none_first, newcomer_entered, silent_unaware}
+use Rattle.course_laws.proofs.Growing.{AreSilent, front_get, all_at, none_behind_kept, decided_still, Before, Behind, where_is}
 use Rattle.course_laws.proofs.Viewed.{has_last}
-use Rattle.course_laws.proofs.KeptLaws.{dropped, ends_idle}
+use Rattle.course_laws.proofs.KeptLaws.{ends_idle}
 
 -- ---- lists without messages of a member
-pub none_first : {X : Type 0} (o : Option X) (xs : List X) → cons_option o xs ≡ []
-    → (o ≡ None) × (xs ≡ [])
-none_first None xs is = (refl, is)
-none_first (Some x) xs is = cc
+silent_none : (m : ℕ) (es : List Event) → AreSilent m es → filter_map (message_of m) es ≡ []
+silent_none m [] all = refl
+silent_none m (e ∷ es) all =
+    ap (λ o. cons_option o (filter_map (message_of m) es)) all.0 ∙ silent_none m es all.1
 
-module _ (m : ℕ) where
-  silent_none : (es : List Event) → AreSilent m es → filter_map (message_of m) es ≡ []
-  silent_none [] all = refl
-  silent_none (e ∷ es) all =
-      ap (λ o. cons_option o (filter_map (message_of m) es)) all.0 ∙ silent_none es all.1
-
-  behind_silent : (c : ℕ) (es : List Event) → AreSilent m es → messages_behind m c es ≡ []
-  behind_silent zero es all = silent_none es all
-  behind_silent (suc c) [] all = refl
-  behind_silent (suc c) (e ∷ es) all = behind_silent c es all.1
-
-  -- where none is behind the first so many, none is behind more
-  none_later : (c d : ℕ) (es : List Event) → c ≤ d → messages_behind m c es ≡ []
-      → messages_behind m d es ≡ []
-  none_later zero zero es fits is = is
-  none_later zero (suc d) [] fits is = refl
-  none_later zero (suc d) (e ∷ es) fits is =
-      none_later zero d es (omega arith)
-      (none_first (message_of m e) (filter_map (message_of m) es) is).1
-  none_later (suc c) zero es fits is = absurd (omega (arith, fits))
-  none_later (suc c) (suc d) [] fits is = refl
-  none_later (suc c) (suc d) (e ∷ es) fits is = none_later c d es (omega (arith, fits)) is
-
-  -- and each event there is none
-  none_at : (c : ℕ) (es : List Event) (j : ℕ) (e : Event) → messages_behind m c es ≡ [] → c ≤ j
-      → slice_get es j ≡ Some e → message_of m e ≡ None
-  none_at c [] j e is above there = cc
-  none_at zero (x ∷ es) zero e is above there =
-      subst (λ y. message_of m y ≡ None) (same_Some x e there)
-      (none_first (message_of m x) (filter_map (message_of m) es) is).0
-  none_at zero (x ∷ es) (suc j) e is above there =
-      none_at zero es j e (none_first (message_of m x) (filter_map (message_of m) es) is).1
-      (omega arith) there
-  none_at (suc c) (x ∷ es) zero e is above there = absurd (omega (arith, above))
-  none_at (suc c) (x ∷ es) (suc j) e is above there =
-      none_at c es j e is (omega (arith, above)) there
-
-  -- no write set of the member either
-  no_body : (e : Event) → message_of m e ≡ None → own_body m e ≡ None
-  no_body (event.Write sender body) none = by (sender == m) none
-    where
-      by : (b : Bool) → cond {A = Option Message} b (Some (message.Write body)) None ≡ None
-          → cond {A = Option (List ℕ)} b (Some body) None ≡ None
-      by true is = cc
-      by false is = refl
-  no_body (event.View version members) none = refl
-  no_body (event.Report sender number) none = refl
-
-  none_own : (c d : ℕ) (es : List Event) → messages_behind m c es ≡ []
-      → filter_map (own_body m) (drop c (take d es)) ≡ []
-  none_own zero zero es is = refl
-  none_own zero (suc d) [] is = refl
-  none_own zero (suc d) (e ∷ es) is =
-      let both = none_first (message_of m e) (filter_map (message_of m) es) is in
-      ap (λ o. cons_option o (filter_map (own_body m) (take d es))) (no_body e both.0)
-      ∙ none_own zero d es both.1
-  none_own (suc c) zero es is = refl
-  none_own (suc c) (suc d) [] is = refl
-  none_own (suc c) (suc d) (e ∷ es) is = none_own c d es is
+-- where there is none behind the first so many, no event there is one
+none_at : (m c : ℕ) (es : List Event) (j : ℕ) (e : Event) → messages_behind m c es ≡ [] → c ≤ j
+    → slice_get es j ≡ Some e → message_of m e ≡ None
+none_at m c es j e is above there =
+    (none_first (message_of m e) _ (sym (ap (filter_map (message_of m)) (drop_one es j e there))
+    ∙ none_later (message_of m) es c j above is)).0
 
 pub last_is : {X : Type 0} (xs : List X) (x : X) → slice_get (xs ++ x ∷ []) (length xs) ≡ Some x
 last_is [] x = refl
 last_is (y ∷ xs) x = last_is xs x
 
-all_grown : (m : ℕ) (es more : List Event) → AreSilent m es → AreSilent m more
-    → AreSilent m (es ++ more)
-all_grown m [] more all last = last
-all_grown m (e ∷ es) more all last = (all.0, all_grown m es more all.1 last)
-
 -- ---- a node that left joins
 module _ (old most : ℕ) (order : List Event) (n : ModelNode) (h : Kept old most order n)
     (left : is_left n.at.phase ≡ true) (all : n.at.taken ≡ n.at.committed) where
-  queue_by : Place order n → (n.ordered ≡ []) × (n.outbox ≡ [])
-  queue_by (Inside s) = absurd (true≢false (sym left ∙ ap is_left s.connected))
-  queue_by (Entering s) = absurd (true≢false (sym left ∙ ap is_left s.joining))
-  queue_by (Outside g) = (g.cleared.none_ordered, g.cleared.none_waits)
+  cleared : Place order n → IsCleared n.ordered n.outbox n.live
+  cleared (Inside s) = absurd (true≢false (sym left ∙ ap is_left s.connected))
+  cleared (Entering s) = absurd (true≢false (sym left ∙ ap is_left s.joining))
+  cleared (Outside g) = g.cleared
 
-  pub at_rest : IsAtRest n
+  at_rest : IsAtRest n
   at_rest =
-      let queue = queue_by h.follows.place in
-      rests order n h.follows.facts all queue.0 queue.1 (ends_idle old most order n h left all)
+      left_rests order n h.follows.facts (cleared h.follows.place) all
+      (ends_idle old most order n h left all)
 
   module _ (fresh : Bool) (silent : AreSilent (new_member order) order) where
     abbrev member : ℕ
@@ -133,19 +72,13 @@ module _ (old most : ℕ) (order : List Event) (n : ModelNode) (h : Kept old mos
     m = joined_node fresh (new_member order) (length order + 1) n
 
     all_silent : AreSilent (new_member order) now
-    all_silent = all_grown member order (view ∷ []) silent (refl, tt)
+    all_silent = all_push (λ (e : Event). message_of member e ≡ None) order view silent refl
 
-    unaware_by : (e : Event) (j : ℕ) → slice_get order j ≡ Some e → IsUnaware member e
-    unaware_by (event.Write sender body) j there =
-        silent_unaware member (event.Write sender body)
-        (all_at (λ (x : Event). message_of member x ≡ None) order silent j
-        (event.Write sender body) there) tt
-    unaware_by (event.View version members) j there =
-        view_lacks order member j version members there (omega arith)
-    unaware_by (event.Report sender number) j there =
-        silent_unaware member (event.Report sender number)
-        (all_at (λ (x : Event). message_of member x ≡ None) order silent j
-        (event.Report sender number) there) tt
+    none_now : filter_map (message_of member) now ≡ []
+    none_now = silent_none member now all_silent
+
+    none_ahead : messages_behind member n.at.certified now ≡ []
+    none_ahead = none_from (message_of member) now n.at.certified none_now
 
     newcomer : IsNewcomer now (new_member order) (length order + 1)
     newcomer = record {
@@ -156,65 +89,46 @@ module _ (old most : ℕ) (order : List Event) (n : ModelNode) (h : Kept old mos
       opens = last_is order view;
       has = has_last member (last_view order).1;
       unaware = λ j e below there.
-          unaware_by e j (sym (front_get order (view ∷ []) j below) ∙ there);
+          let at = sym (front_get order (view ∷ []) j below) ∙ there in
+          silent_unaware member e
+          (all_at (λ (x : Event). message_of member x ≡ None) order silent j e at)
+          (all_at (ViewLacks member) order (none_views order member (omega arith)) j e at);
     }
 
-    keeps_by : (j : ℕ) (e : Event) → length order + 1 ≤ j + 1 → Where order (view ∷ []) j e
-        → Keeps member e
-    keeps_by j e from (Before below there) = absurd (omega (arith, from, below))
-    keeps_by j e from (Behind zero above there) =
-        subst (Keeps member) (same_Some view e there) (has_last member (last_view order).1)
-    keeps_by j e from (Behind (suc k) above there) = cc
-
     keeps : AllKeep now (new_member order) (length order + 1)
-    keeps j e from there = keeps_by j e from (where_is order (view ∷ []) j e there)
-
-    nothing_pending : pending now m ≡ []
-    nothing_pending =
-        (λ i. none_own member n.at.certified n.at.taken now
-        (behind_silent member n.at.certified now all_silent) i
-        ++ filter_map sent_body (at_rest.none_ordered i ++ at_rest.none_waits i))
-
-    nothing_ahead : messages_ahead now m ≡ []
-    nothing_ahead =
-        (λ i. behind_silent member n.at.certified now all_silent i ++ at_rest.none_waits i)
-
-    none_own_write : OwnAreDecided now (new_member order)
-    none_own_write before body there =
-        absurd (some_not_none (message.Write body) (message_of member (event.Write member body))
-        (own_is member body)
-        (all_at (λ (x : Event). message_of member x ≡ None) now all_silent before
-        (event.Write member body) there))
-
-    facts : Facts now m
-    facts =
-        joined_facts now fresh member (length order + 1) n at_rest
-        (facts_grow order (view ∷ []) n h.follows.facts)
+    keeps j e from there =
+        elim (where_is order (view ∷ []) j e there) [
+          | Before below at ↦ absurd (omega (arith, from, below))
+          | Behind k above at ↦
+              all_at (Keeps member) (view ∷ []) (has_last member (last_view order).1, tt) k e at
+        ]
 
     pub joined_kept : Kept (new_member order) (most + 1) now m
     joined_kept =
         let o = h.follows.facts.in_order in record {
           follows = record {
             home = refl;
-            facts = facts;
+            facts = joined_facts now fresh member (length order + 1) n at_rest
+                (facts_grow order (view ∷ []) n h.follows.facts);
             stage = Early (record {
               before = omega (arith, o.certified_fits, o.taken_fits);
               newcomer = newcomer;
               positive = omega arith;
               idle = at_rest.none_live;
-              nothing = nothing_pending;
-              silent = nothing_ahead;
+              nothing = (λ i. none_own now member n.at.certified n.at.taken none_ahead i
+                  ++ filter_map sent_body (at_rest.none_ordered i ++ at_rest.none_waits i));
+              silent = (λ i. none_ahead i ++ at_rest.none_waits i);
             });
             place = Entering (record {
               joining = refl;
               rest = at_rest;
               behind = omega (arith, o.taken_fits);
-              in_step = at_rest.none_ordered
-                  ∙ sym (behind_silent member n.at.taken now all_silent);
+              in_step = in_step_joined order (view ∷ []) fresh member (length order + 1) n
+                  at_rest none_now;
               keeps = keeps;
             });
           };
-          decided = none_own_write;
+          decided = decided_still [] now member (λ before body there. cc) all_silent;
           none_behind = none_behind_kept now member (length order + 1) keeps;
           serial = omega (arith, h.serial);
           begin = omega arith;
@@ -233,11 +147,8 @@ module _ (member most : ℕ) (order : List Event) (n : ModelNode) (h : Kept memb
   abbrev s : HasJoined order n
   s = joining_not order n joining h.follows.place
 
-  abbrev EarlyNow : Type 0
-  EarlyNow = IsEarly order n.at.member n.at.view n.at.certified n.at.serial n.live
+  early_by : Stage order n → IsEarly order n.at.member n.at.view n.at.certified n.at.serial n.live
       (pending order n) (messages_ahead order n)
-
-  early_by : Stage order n → EarlyNow
   early_by (Early e) = e
   early_by (Since o) =
       absurd (omega (
@@ -248,31 +159,23 @@ module _ (member most : ℕ) (order : List Event) (n : ModelNode) (h : Kept memb
         number-at order n.at.certified (within_order order n h.follows.facts),
       ))
 
-  early : EarlyNow
+  early : IsEarly order n.at.member n.at.view n.at.certified n.at.serial n.live (pending order n)
+      (messages_ahead order n)
   early = early_by h.follows.stage
 
   -- nothing of its member is ordered behind what it took
   none_taken : messages_behind n.at.member n.at.taken order ≡ []
-  none_taken = sym s.in_step ∙ s.rest.none_ordered
-
-  none_certified : messages_behind n.at.member n.at.certified order ≡ []
-  none_certified =
-      ap (λ k. messages_behind n.at.member k order) s.rest.all_certified ∙ none_taken
+  none_taken = none_behind_it order n s.rest s.in_step
 
   module _ (last : ℕ) (up : n.at.view ≤ last) (fits : last ≤ length order) where
     later : n.at.taken ≤ last
     later = omega (arith, up, s.behind)
 
-    none_last : messages_behind n.at.member last order ≡ []
-    none_last = none_later n.at.member n.at.taken last order later none_taken
-
     -- a donor's events up to this one
-    abbrev took : ModelNode
-    took = received_events last n
-
-    events_pending : pending order took ≡ []
+    events_pending : pending order (received_events last n) ≡ []
     events_pending =
-        (λ i. none_own n.at.member n.at.certified last order none_certified i
+        (λ i. none_own order n.at.member n.at.certified last
+        (ap (λ k. messages_behind n.at.member k order) s.rest.all_certified ∙ none_taken) i
         ++ filter_map sent_body (s.rest.none_ordered i ++ s.rest.none_waits i))
 
     pub took_kept : Kept member (most + 1) order (received_events last n)
@@ -280,18 +183,11 @@ module _ (member most : ℕ) (order : List Event) (n : ModelNode) (h : Kept memb
       follows = record {
         home = h.follows.home;
         facts = received_facts order last n s.rest later fits
-            (none_own n.at.member n.at.taken last order none_taken) h.follows.facts;
-        stage = Early (record {
-          before = early.before;
-          newcomer = early.newcomer;
-          positive = early.positive;
-          idle = early.idle;
-          nothing = events_pending;
-          silent = early.silent;
-        });
+            (none_own order n.at.member n.at.taken last none_taken) h.follows.facts;
+        stage = let e = early in Early (search (e, events_pending));
         place = Inside (record {
           connected = refl;
-          in_step = s.rest.none_ordered ∙ sym none_last;
+          in_step = in_step_received order n s.rest s.in_step last later;
           keeps = s.keeps;
         });
       };
@@ -308,11 +204,13 @@ module _ (member most : ℕ) (order : List Event) (n : ModelNode) (h : Kept memb
 
       snapshot_pending : pending order installed ≡ []
       snapshot_pending =
-          (λ i. filter_map (own_body n.at.member) (dropped last order i)
+          (λ i. none_own-behind order n.at.member last i
           ++ filter_map sent_body (s.rest.none_ordered i ++ s.rest.none_waits i))
 
       snapshot_ahead : messages_ahead order installed ≡ []
-      snapshot_ahead = (λ i. none_last i ++ s.rest.none_waits i)
+      snapshot_ahead =
+          (λ i. none_later (message_of n.at.member) order n.at.taken last later none_taken i
+          ++ s.rest.none_waits i)
 
       snapshot_entered : Entered (state_at order last) n.at.member n.at.view n.at.begin
           n.at.serial last n.live [] []
@@ -323,24 +221,15 @@ module _ (member most : ℕ) (order : List Event) (n : ModelNode) (h : Kept memb
           (λ j e from below there. s.keeps j e from there)
           last n.at.begin n.at.serial last n.live up (omega arith) early.positive early.idle
 
-      snapshot_ordered : OrderedFacts order installed
-      snapshot_ordered =
-          subst (λ bodies. Entered (state_at order last) n.at.member n.at.view n.at.begin
-          n.at.serial last n.live (filter_map decoded bodies) (seen_ahead order installed))
-          (sym snapshot_pending)
-          (subst (λ ms. Entered (state_at order last) n.at.member n.at.view n.at.begin
-          n.at.serial last n.live [] (filter_map seen_in ms)) (sym snapshot_ahead)
-          snapshot_entered)
-
       pub installed_kept : Kept member (most + 1) order (received_snapshot last id n)
       installed_kept = record {
         follows = record {
           home = h.follows.home;
           facts = installed_facts order last id n s.rest fits h.follows.facts;
-          stage = Since snapshot_ordered;
+          stage = Since (rw (snapshot_pending, snapshot_ahead) snapshot_entered);
           place = Inside (record {
             connected = refl;
-            in_step = s.rest.none_ordered ∙ sym none_last;
+            in_step = in_step_installed order n s.rest s.in_step last id later;
             keeps = s.keeps;
           });
         };

@@ -1,30 +1,27 @@
 -- What is kept of a node gives its laws.
-use Rattle.std.proofs.Common.{◌≡◌, ℕ, zero, suc, true, false, cond, List, [], ◌∷◌, ◌++◌, length, Some, refl, ap, sym, subst, ◌∙◌, arith, true≢false, drop, take}
-use Rattle.std.specs.Prelude.{slice_get}
-use Rattle.std.specs.List.{filter_map}
+use Rattle.std.proofs.Common.{◌≡◌, ℕ, zero, suc, true, false, cond, List, [], ◌∷◌, length, Some, refl, ap, sym, subst, subst₂, ◌∙◌, arith, true≢false, drop, take}
 use Rattle.std.proofs.lemmas.Option.{same_Some}
 use Rattle.wsrep_base.specs.declared.ids.TrxId.{TrxId}
 use Rattle.order_event.specs.declared.event.Event.{Event}
 use Rattle.order_event.specs.declared.event.Event.TheVariants as event
-use Rattle.order_event.specs.declared.step.Answer.TheVariants as answer
 use Rattle.write_set.specs.declared.write_set.WriteSet.{WriteSet}
-use Rattle.write_set.specs.Reading.{decoded}
 use Rattle.cert_meaning.specs.Verdict as rules
 use Rattle.cert_meaning.specs.Fold.{state_at}
 use Rattle.client_trx.specs.Live.{Live, is_sent, is_uncommitted}
 use Rattle.client_trx.specs.declared.status.Status.{Status}
 use Rattle.client_trx.specs.declared.status.Status.TheVariants as status
 use Rattle.node_meaning.specs.Node.{ModelNode, is_left, is_connected}
-use Rattle.node_meaning.specs.Steps.{take_step, take_event}
-use Rattle.node_meaning.specs.Facts.{IsUndecided, HasFailed, Alone, One, Lost, StandsBy, IsFragmentOf, IsCommitOf, sets_of, own_body, sent_body, HasPassed}
+use Rattle.node_meaning.specs.Steps.{take_step}
+use Rattle.node_meaning.specs.Facts.{IsUndecided, HasFailed, Alone, One, Lost, StandsBy, sets_of, HasPassed}
 use Rattle.node_laws.specs.InStep.{IsInStep, IsCleared}
 use Rattle.course_laws.specs.Ordered.{pending_sets}
-use Rattle.course_laws.specs.Laws.{IsByConflict, OwnAreDecided, NoneFailed, NodeLaws, NoneBehind, IsViewed, EndsIdle, SentStandOnce, NoSplit, TookItsViews}
+use Rattle.course_laws.specs.Laws.{OwnAreDecided, NoneFailed, NodeLaws, NoneBehind, IsViewed, EndsIdle, SentStandOnce, NoSplit}
 use Rattle.course_laws.proofs.Placing.{conflict_not}
 use Rattle.course_laws.proofs.PendingSets.{sets_lined}
-use Rattle.course_laws.proofs.Taking.{no_split, nothing_not}
+use Rattle.course_laws.proofs.Taking.{no_split}
 use Rattle.course_laws.specs.Places.{Place, Inside, Entering, Outside}
 use Rattle.course_laws.specs.Kept.{Kept}
+use Rattle.course_laws.proofs.Following.{first_keeps}
 
 pub dropped : (k : ℕ) (order : List Event) → drop k (take k order) ≡ []
 dropped zero order = refl
@@ -34,9 +31,7 @@ dropped (suc k) (e ∷ order) = dropped k order
 -- a node that is not connected takes nothing
 out_whole : (order : List Event) (n : ModelNode) → is_connected n.at.phase ≡ false → NoSplit order n
 unfolding take_step
-out_whole order n out split =
-    nothing_not (sym (ap (λ b. (cond b (take_event n (slice_get order n.at.taken))
-    (answer.Nothing, n)).0) out) ∙ split)
+out_whole order n out split = grind (arith, out, split)
 
 module _ (member most : ℕ) (order : List Event) (n : ModelNode) (h : Kept member most order n) where
   pub none_failed : NoneFailed order n
@@ -45,29 +40,23 @@ module _ (member most : ℕ) (order : List Event) (n : ModelNode) (h : Kept memb
       let was = h.decided failed.before failed.body
       (failed.there ∙ ap (λ k. Some (event.Write k failed.body)) home) in
       let same : was.0 ≡ failed.set = same_Some was.0 failed.set (sym was.1 ∙ failed.is) in
-      conflict_not (rules.verdict (state_at order failed.before) member failed.set)
-      (subst (λ w. IsByConflict (rules.verdict (state_at order failed.before) member w)) same was.2)
-      (subst (λ k. IsUndecided (rules.verdict (state_at order failed.before) k failed.set)) home
-      failed.undecided)
+      conflict_not (rules.verdict (state_at order failed.before) member was.0) was.2
+      (subst₂ (λ k w. IsUndecided (rules.verdict (state_at order failed.before) k w)) home
+      (sym same) failed.undecided)
 
-  alone_once : (P : WriteSet → Type 0) (trx : TrxId) (mine : List WriteSet)
+  alone_once : {P : WriteSet → Type 0} (trx : TrxId) (mine : List WriteSet)
       → trx.member ≡ n.at.member → Alone P (HasFailed order n.at.certified trx) mine
       → length mine ≡ 1
-  alone_once P trx mine own (One w is here) = ap length is
-  alone_once P trx mine own (Lost none failed) = absurd (none_failed trx own failed)
+  alone_once trx mine own (One w is here) = ap length is
+  alone_once trx mine own (Lost none failed) = absurd (none_failed trx own failed)
 
   once_by : (t : Live) (mine : List WriteSet) → t.trx.member ≡ n.at.member → (st : Status)
       → StandsBy order n.at.committed n.at.certified mine t st
       → length mine ≡ cond (is_sent st) 1 0
   once_by t mine own status.Running s = ap length s.0
-  once_by t mine own status.FragmentSent s =
-      alone_once (IsFragmentOf (state_at order n.at.certified) t) t.trx mine own s
-  once_by t mine own status.CommitSent s =
-      alone_once (IsCommitOf (state_at order n.at.certified) t) t.trx mine own s
   once_by t mine own (status.Certified number) s = ap length s.0
-  once_by t mine own status.KilledSent s =
-      alone_once (IsCommitOf (state_at order n.at.certified) t) t.trx mine own s
   once_by t mine own (status.Replaying number) s = ap length s.0
+  once_by t mine own _ s = alone_once t.trx mine own s
 
   pub once : SentStandOnce order n
   once se t there =
@@ -90,33 +79,14 @@ module _ (member most : ℕ) (order : List Event) (n : ModelNode) (h : Kept memb
   cleared_by (Entering s) left = absurd (true≢false (sym left ∙ ap is_left s.joining))
   cleared_by (Outside g) left = g.cleared
 
-  took_by : Place order n → TookItsViews order n
-  took_by (Inside s) place version members from below there =
-      s.keeps place (event.View version members) from there
-  took_by (Entering s) place version members from below there =
-      s.keeps place (event.View version members) from there
-  took_by (Outside g) place version members from below there =
-      g.keeps place (event.View version members) from below there
-
   -- ---- a node that left, once it has committed all that it took
   module _ (cleared : IsCleared n.ordered n.outbox n.live) (all : n.at.taken ≡ n.at.committed) where
-    none_taken : drop n.at.certified (take n.at.taken order) ≡ []
-    none_taken =
+    none_pending : pending_sets order n ≡ []
+    none_pending =
         let o = h.follows.facts.in_order in
         let last : n.at.taken ≡ n.at.certified =
         omega (arith, all, o.committed_fits, o.certified_fits) in
-        ap (λ k. drop n.at.certified (take k order)) last ∙ dropped n.at.certified order
-
-    none_pending : pending_sets order n ≡ []
-    none_pending =
-        (λ i. filter_map decoded (filter_map (own_body n.at.member) (none_taken i)
-        ++ filter_map sent_body (cleared.none_ordered i ++ cleared.none_waits i)))
-
-    waits_not : (t : Live) → length (sets_of t.trx.begin (pending_sets order n)) ≡ 1 → ⊥
-    waits_not t is =
-        let none : 0 ≡ 1 =
-        ap (λ sets. length (sets_of t.trx.begin sets)) (sym none_pending) ∙ is in
-        omega (arith, none)
+        rw (last, dropped n.at.certified order, cleared.none_ordered, cleared.none_waits)
 
     passed_not : (t : Live) (number : ℕ)
         → HasPassed order n.at.committed n.at.certified t number → ⊥
@@ -128,12 +98,10 @@ module _ (member most : ℕ) (order : List Event) (n : ModelNode) (h : Kept memb
         → length (sets_of t.trx.begin (pending_sets order n)) ≡ cond (is_sent st) 1 0
         → StandsBy order n.at.committed n.at.certified
         (sets_of t.trx.begin (pending_sets order n)) t st → ⊥
-    idle_by t status.Running commits waits s = true≢false commits
-    idle_by t status.FragmentSent commits waits s = true≢false commits
-    idle_by t status.CommitSent commits waits s = waits_not t waits
     idle_by t (status.Certified number) commits waits s = passed_not t number s.1
-    idle_by t status.KilledSent commits waits s = waits_not t waits
     idle_by t (status.Replaying number) commits waits s = passed_not t number s.1
+    idle_by t _ commits waits s =
+        let none = rw none_pending at waits in cc
 
   pub ends_idle : is_left n.at.phase ≡ true → EndsIdle n
   ends_idle left all se t there =
@@ -152,5 +120,6 @@ module _ (member most : ℕ) (order : List Event) (n : ModelNode) (h : Kept memb
     none_behind = subst (λ k. NoneBehind order k n.at.view) (sym h.follows.home) h.none_behind;
     cleared = cleared_by h.follows.place;
     idle = ends_idle;
-    took = took_by h.follows.place;
+    took = λ place version members.
+        first_keeps order n h.follows.place place (event.View version members);
   }

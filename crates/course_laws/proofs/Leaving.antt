@@ -1,6 +1,6 @@
 -- A node leaves: the transactions that end do so by moves, and then its queue is lost. What holds
 -- over the order so far holds of the front of what was pending and of what was ahead.
-use Rattle.std.proofs.Common.{◌≡◌, ℕ, ◌≤◌, true, List, [], ◌∷◌, ◌++◌, drop, take, refl, ap, sym, subst, ◌∙◌, arith, append-nil}
+use Rattle.std.proofs.Common.{◌≡◌, ℕ, ◌≤◌, true, List, [], ◌∷◌, ◌++◌, drop, take, refl, ap, sym, ◌∙◌, arith, append-nil}
 use Rattle.std.specs.Prelude.{max}
 use Rattle.std.specs.List.{filter_map}
 use Rattle.std.specs.Ordering.{nat_cmp}
@@ -85,23 +85,15 @@ module _ (order : List Event) (n : ModelNode) where
       ∙ ap (λ ms. filter_map seen_in ms ++ filter_map seen_in n.outbox) (sym (append-nil behind))
 
   departed_stage : Stage order n → Stage order (departed n)
-  departed_stage (Early h) = Early (record {
-    before = h.before;
-    newcomer = h.newcomer;
-    positive = h.positive;
-    idle = h.idle;
-    nothing = append-nil taken_bodies ∙ front_none taken_bodies queued h.nothing;
-    silent = append-nil behind ∙ front_none behind n.outbox h.silent;
-  })
+  departed_stage (Early h) =
+      let nothing = append-nil taken_bodies ∙ front_none taken_bodies queued h.nothing in
+      let silent = append-nil behind ∙ front_none behind n.outbox h.silent in
+      Early (search (h, nothing, silent))
   departed_stage (Since h) =
       Since (entered_front (state_at order n.at.certified) n.at.member n.at.view n.at.begin
       n.at.serial n.at.committed n.live (pending_sets order (departed n))
       (filter_map decoded queued) (seen_ahead order (departed n)) (filter_map seen_in n.outbox)
-      (subst (λ sets. Entered (state_at order n.at.certified) n.at.member n.at.view n.at.begin
-      n.at.serial n.at.committed n.live sets
-      (seen_ahead order (departed n) ++ filter_map seen_in n.outbox)) sets_parts
-      (subst (Entered (state_at order n.at.certified) n.at.member n.at.view n.at.begin
-      n.at.serial n.at.committed n.live (pending_sets order n)) seen_parts h)))
+      (rw (sets_parts, seen_parts) at h))
 
 -- all that it took keeps its member
 took_keeps : (order : List Event) (n : ModelNode) → Place order n

@@ -1,23 +1,23 @@
 -- What holds over the order so far holds when one more event is certified: an event of another
 -- member, a view that has the member, or the member's oldest pending write set, which is decided.
-use Rattle.std.proofs.Common.{◌≡◌, ℕ, ◌+◌, ◌≤◌, Bool, true, false, cond, List, [], ◌∷◌, ◌++◌, length, Option, Some, None, refl, ap, sym, subst, ◌∙◌, arith, eq-eqb, true≢false}
-use Rattle.std.specs.Prelude.{◌==◌, ◌||◌, not, nat_lt, max, is_some, unwrap_or}
+use Rattle.std.proofs.Common.{◌≡◌, ℕ, ◌+◌, ◌≤◌, Bool, true, false, cond, List, [], ◌∷◌, ◌++◌, length, Option, Some, None, refl, ap, sym, subst, ◌∙◌, arith, eq-eqb, true≢false, length-append}
+use Rattle.std.specs.Prelude.{◌==◌, ◌||◌, max, is_some, unwrap_or}
 use Rattle.std.specs.List.{AllByRecursion}
 use Rattle.std.specs.Ordering.{nat_cmp}
+use Rattle.std.proofs.lemmas.Bool.{not_from_false}
 use Rattle.std.proofs.lemmas.List.Sums.{fold-append}
 use Rattle.std.proofs.lemmas.Option.{same_Some}
-use Rattle.finite_map.specs.FiniteMap.{FiniteMap, get, len}
+use Rattle.finite_map.specs.FiniteMap.{FiniteMap, get}
 use Rattle.wsrep_base.specs.declared.ids.TrxId.{TrxId}
 use Rattle.wsrep_base.specs.declared.verdict.Verdict.TheVariants as verdict
 use Rattle.wsrep_base.specs.declared.verdict.Judged.TheVariants as became
-use Rattle.key_sets.specs.Keys.{LIMIT}
 use Rattle.order_event.specs.declared.event.Event.{Event}
 use Rattle.order_event.specs.declared.event.Event.TheVariants.{Write}
 use Rattle.write_set.specs.declared.write_set.WriteSet.{WriteSet}
 use Rattle.write_set.specs.Reading.{decoded}
 use Rattle.cert_meaning.specs.declared.items.Fragment.{Fragment}
 use Rattle.cert_meaning.specs.declared.members.Standing.{Standing}
-use Rattle.cert_meaning.specs.State.{FoldState, fragments_of, last_seen_of, whole_keys}
+use Rattle.cert_meaning.specs.State.{FoldState, fragments_of}
 use Rattle.cert_meaning.specs.Verdict as rules
 use Rattle.cert_meaning.specs.Verdict.{trx_of, is_rollback, is_broken, is_start}
 use Rattle.cert_meaning.specs.Fold.{Adds, effect_of, judged_as, judged_write, after, fragment_by}
@@ -36,24 +36,15 @@ use Rattle.course_laws.proofs.Placing.{next_decided, rises_lower}
 broken_same : (s r : FoldState) (w : WriteSet)
     → get r.open_trx (trx_of w) ≡ get s.open_trx (trx_of w) → is_broken r w ≡ is_broken s w
 unfolding is_broken
-broken_same s r w same =
-    ap (λ (o : Option (List Fragment)).
-    (cond (is_start w) (is_some o)
-    (not (is_some o) || not (w.fragment == length (unwrap_or o []))))
-    || nat_lt w.last_seen (last_seen_of (unwrap_or o []))
-    || nat_lt LIMIT (len (whole_keys (unwrap_or o []) w.keys))) same
+broken_same s r w same = rw same
 
 goes_same : (s r : FoldState) (v p : ℕ) (t : Live)
     → get r.open_trx t.trx ≡ get s.open_trx t.trx → GoesOn s v p t → GoesOn r v p t
 goes_same s r v p t same h = record {
   synced = h.synced;
   sent = λ running.
-      let g = h.sent running in record {
-        opened = ap is_some same ∙ g.opened;
-        count = ap (λ (o : Option (List Fragment)). length (unwrap_or o [])) same ∙ g.count;
-        seen = subst (λ (o : Option (List Fragment)). last_seen_of (unwrap_or o []) ≤ p)
-            (sym same) g.seen;
-      };
+      let g = h.sent running in
+      record { opened = rw same g.opened; count = rw same g.count; seen = rw same g.seen };
 }
 
 -- ---- an event that is none of the member's write sets
@@ -93,37 +84,21 @@ module _ (s : FoldState) (e : Event) (m v b serial p : ℕ) (live : FiniteMap na
 
 -- ---- the fragments of a transaction whose fragment passes
 -- what the flags of a fragment say
-record IsFragment (w : WriteSet) (first : Bool) : Type 0 where
-  starts : is_start w ≡ first
-  stays : is_rollback w ≡ false
-  adds : effect_of (judged_as w verdict.Pass) ≡ Adds
+record IsFragment (flags : ℕ) (first : Bool) : Type 0 where
+  starts : (flags == 1 || flags == 3) ≡ first
+  stays : flags == 4 ≡ false
+  adds : effect_of (cond (flags == 4) became.Rollback
+      (cond (flags == 2 || flags == 3) became.Commit became.Fragment)) ≡ Adds
 
-is_fragment : (w : WriteSet) (first : Bool) → w.flags ≡ cond first 1 0 → IsFragment w first
-is_fragment w true flags = record {
-  starts = ap (λ f. f == 1 || f == 3) flags;
-  stays = ap (λ f. f == 4) flags;
-  adds = ap (λ f. effect_of (cond (f == 4) became.Rollback
-      (cond (f == 2 || f == 3) became.Commit became.Fragment))) flags;
-}
-is_fragment w false flags = record {
-  starts = ap (λ f. f == 1 || f == 3) flags;
-  stays = ap (λ f. f == 4) flags;
-  adds = ap (λ f. effect_of (cond (f == 4) became.Rollback
-      (cond (f == 2 || f == 3) became.Commit became.Fragment))) flags;
-}
+is_fragment : (first : Bool) → IsFragment (cond first 1 0) first
+is_fragment true = record { starts = refl; stays = refl; adds = refl }
+is_fragment false = record { starts = refl; stays = refl; adds = refl }
 
 some_open : (o : Option (List Fragment)) (fs : List Fragment) (f : Fragment)
     → unwrap_or o [] ≡ fs ++ f ∷ [] → is_some o ≡ true
 some_open None [] f is = cc
 some_open None (g ∷ fs) f is = cc
 some_open (Some gs) fs f is = refl
-
-length_push : (fs : List Fragment) (f : Fragment) → length (fs ++ f ∷ []) ≡ length fs + 1
-length_push [] f = refl
-length_push (g ∷ fs) f = omega (arith, length_push fs f)
-
-not_none : (k n : ℕ) → k + 1 ≡ n → not (n == 0) ≡ true
-not_none k n is = ap not (unequal n 0 (λ same. omega (arith, is, same)))
 
 -- ---- the member's own oldest pending write set
 module _ (s : FoldState) (m v b serial p : ℕ) (live : FiniteMap nat_cmp Live) (w : WriteSet)
@@ -184,7 +159,8 @@ module _ (s : FoldState) (m v b serial p : ℕ) (live : FiniteMap nat_cmp Live) 
   fragment_sent_passed t u pass of_trx f same sent =
       let fs = fragments_of s (trx_of w) in
       let last = fragment_by s w in
-      let kind = is_fragment w (w.fragment == 0) f.flags in
+      let kind = subst (λ flags. IsFragment flags (w.fragment == 0)) (sym f.flags)
+      (is_fragment (w.fragment == 0)) in
       let counted : length (fragments_of s (trx_of w)) ≡ w.fragment =
       count w s m kind.starts kind.stays pass in
       let adds : effect_of (judged_write s m (Some w)) ≡ Adds =
@@ -194,12 +170,12 @@ module _ (s : FoldState) (m v b serial p : ℕ) (live : FiniteMap nat_cmp Live) 
       let seen = ours.0.seen in
       record {
         opened = some_open (get next.open_trx u.trx) fs last more
-            ∙ sym (not_none w.fragment u.sent (f.number ∙ sym sent));
-        count = ap length more ∙ length_push fs last ∙ ap (λ k. k + 1) counted ∙ f.number
+            ∙ sym (not_from_false _ (unequal u.sent 0
+            (λ none. omega (arith, none, sent, f.number))));
+        count = ap length more ∙ length-append fs (last ∷ []) ∙ ap (λ k. k + 1) counted ∙ f.number
             ∙ sym sent;
-        seen = subst (λ all. last_seen_of all ≤ p) (sym more)
-            (subst (λ k. k ≤ p)
-            (sym (fold-append (λ (_ : ℕ) (x : Fragment). x.last_seen) 0 fs (last ∷ []))) seen);
+        seen = rw (more, fold-append (λ (_ : ℕ) (x : Fragment). x.last_seen) 0 fs (last ∷ []))
+            seen;
       }
 
   -- all of it, where the live transactions are so now

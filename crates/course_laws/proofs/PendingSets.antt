@@ -1,6 +1,6 @@
 -- The write sets that are pending: they are in line with the live transactions, and the next event
 -- is the first of them where it is the member's own. So it is with the messages ahead.
-use Rattle.std.proofs.Common.{◌≡◌, ℕ, ◌+◌, ◌≤◌, false, cond, List, [], ◌∷◌, ◌++◌, length, map, drop, Option, Some, None, refl, ap, sym, subst, ◌∙◌, arith, add-one, eq-eqb}
+use Rattle.std.proofs.Common.{◌≡◌, ℕ, ◌+◌, ◌≤◌, false, cond, List, [], ◌∷◌, ◌++◌, length, map, Option, Some, None, refl, ap, sym, subst, ◌∙◌, arith, add-one, eq-eqb}
 use Rattle.std.specs.Prelude.{◌==◌, slice_get}
 use Rattle.std.specs.List.{filter_map, cons_option}
 use Rattle.order_event.specs.declared.event.Event.{Event}
@@ -12,7 +12,7 @@ use Rattle.node_meaning.specs.Node.{ModelNode}
 use Rattle.node_meaning.specs.Facts.{Facts, Lined, pending}
 use Rattle.node_meaning.proofs.CertifyFacts.{drop_one}
 use Rattle.node_laws.proofs.Moves.{with_certified}
-use Rattle.node_laws.proofs.Heads.{IsSplit, Split, split}
+use Rattle.node_laws.proofs.Heads.{Split, split}
 use Rattle.node_laws.specs.InStep.{message_of, messages_behind}
 use Rattle.node_laws.proofs.SentMoved.{certifies_pending}
 use Rattle.course_laws.specs.Ordered.{pending_sets, seen_in, messages_ahead, seen_ahead}
@@ -24,10 +24,8 @@ some_back [] [] is = refl
 some_back [] (w ∷ sets) is = cc
 some_back (b ∷ bodies) [] is = cc
 some_back (b ∷ bodies) (w ∷ sets) is =
-    let head : decoded b ≡ Some w = cc in
     let tail : map decoded bodies ≡ map Some sets = cc in
-    ap (λ o. cons_option o (filter_map decoded bodies)) head
-    ∙ ap (λ rest. w ∷ rest) (some_back bodies sets tail)
+    grind (arith, is, some_back bodies sets tail)
 
 module _ (order : List Event) (n : ModelNode) where
   abbrev c : ℕ
@@ -38,12 +36,7 @@ module _ (order : List Event) (n : ModelNode) where
       → message_of n.at.member e ≡ o
       → messages_ahead order n
       ≡ cons_option o (messages_behind n.at.member (c + 1) order) ++ n.outbox
-  ahead_next e o there is =
-      let m = n.at.member in
-      let left = messages_behind n.at.member (c + 1) order in
-      ap (λ events. filter_map (message_of m) events ++ n.outbox)
-      (drop_one order c e there ∙ ap (λ k. e ∷ drop k order) (sym (add-one c)))
-      ∙ ap (λ x. cons_option x left ++ n.outbox) is
+  ahead_next e o there is = rw (add-one, drop_one order c e there, is)
 
   -- and what they had seen
   pub seen_next : (e : Event) (o : Option Message) → slice_get order c ≡ Some e
@@ -68,22 +61,19 @@ module _ (order : List Event) (n : ModelNode) (f : Facts order n) where
     pub read : decoded body ≡ Some set
     pub sets_are : pending_sets order n ≡ set ∷ pending_sets order (with_certified n)
 
-  own_by : (body : List ℕ)
-      → IsSplit (decoded body) (map decoded (pending order (with_certified n))) f.sent.sets
-      → OwnNext body
-  own_by body (Split w rest sets_are read are) = record {
-    set = w;
-    read = read;
-    sets_are = some_back (pending order n) f.sent.sets f.sent.are ∙ sets_are
-        ∙ ap (λ xs. w ∷ xs) (sym (some_back (pending order (with_certified n)) rest are));
-  }
-
   pub own_next : (body : List ℕ) → n.at.certified == n.at.taken ≡ false
       → slice_get order n.at.certified ≡ Some (event.Write n.at.member body) → OwnNext body
   own_next body more there =
       let left = pending order (with_certified n) in
-      own_by body (split (decoded body) (map decoded left) f.sent.sets
+      let all = some_back (pending order n) f.sent.sets f.sent.are in
+      elim (split (decoded body) (map decoded left) f.sent.sets
       (ap (map decoded) (sym (certifies_pending order n f.in_order f.sent more
       (event.Write n.at.member body) there
       ∙ ap (λ b. cons_option (cond b (Some body) None) left)
-      (eq-eqb n.at.member n.at.member refl))) ∙ f.sent.are))
+      (eq-eqb n.at.member n.at.member refl))) ∙ f.sent.are)) [
+        | Split w rest sets_are read are ↦ record {
+          set = w;
+          read = read;
+          sets_are = all ∙ sets_are ∙ ap (λ xs. w ∷ xs) (sym (some_back left rest are));
+        }
+      ]

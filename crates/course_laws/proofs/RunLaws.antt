@@ -1,11 +1,10 @@
 -- Each step of a cluster keeps what is kept of it along its run; and it holds at the start.
-use Rattle.std.proofs.Common.{◌≡◌, ℕ, zero, suc, ◌+◌, ◌-◌, ◌≤◌, ◌<◌, ◌^◌, Bool, true, false, List, [], ◌∷◌, ◌++◌, length, Some, None, refl, ap, sym, subst, ◌∙◌, arith, eq-eqb, true≢false, cond}
-use Rattle.std.specs.Prelude.{◌==◌, map, slice_get}
+use Rattle.std.proofs.Common.{◌≡◌, ℕ, zero, suc, ◌+◌, ◌-◌, ◌≤◌, ◌<◌, ◌^◌, true, List, [], ◌∷◌, ◌++◌, length, Some, refl, ap, sym, subst, ◌∙◌, arith, inl, inr}
+use Rattle.std.specs.Prelude.{map, slice_get}
 use Rattle.std.specs.List.{AllByRecursion}
+use Rattle.std.proofs.lemmas.Bool.{cases_eq}
 use Rattle.std.proofs.lemmas.Option.{same_Some}
-use Rattle.order_event.specs.declared.event.Event.TheVariants as event
 use Rattle.order_event.specs.declared.event.Message.{Message}
-use Rattle.order_event.specs.declared.event.Message.TheVariants as message
 use Rattle.order_event.specs.declared.step.Step.{Step}
 use Rattle.group_order.specs.Order.{event_of, start_order, up_to, view_without, view_with, new_member}
 use Rattle.node_meaning.specs.Node.{ModelNode, is_left}
@@ -16,60 +15,44 @@ use Rattle.node_laws.specs.Given.{node_given, nodes_given, given}
 use Rattle.node_laws.proofs.Moves.{with_ordered}
 use Rattle.node_laws.proofs.AdvanceMoves.{CanDrain, CanStep}
 use Rattle.node_laws.proofs.Counts.{reach_grows}
-use Rattle.node_laws.proofs.SetLists.{equal, unequal, all_push, all_each}
-use Rattle.node_laws.proofs.ClusterMoves.{Stepped, Still, Moved, Ordered, Left, Joined, Received, Installed, cluster_moves}
+use Rattle.node_laws.proofs.SetLists.{all_each}
+use Rattle.node_laws.proofs.ClusterMoves.{Stepped, Ordered, Left, Joined, cluster_moves}
 use Rattle.node_laws.proofs.ClusterGrowth.{cluster_grows}
+use Rattle.node_laws.proofs.InStep.{other_messages}
 use Rattle.node_laws.proofs.Sound.{SoundCluster}
 use Rattle.node_laws.proofs.StartSound.{starts_at, start_sound}
-use Rattle.node_laws.proofs.ViewLists.{among_at}
+use Rattle.node_laws.proofs.ViewLists.{among_at, up_to_below}
 use Rattle.node_laws.proofs.ClusterLaws.{step_sound}
 use Rattle.course_laws.specs.Courses.{Course}
 use Rattle.course_laws.specs.Laws.{OwnAreDecided, AllAreDecided, EndsIdle, NodeLaws}
 use Rattle.course_laws.specs.Kept.{CourseKept}
 pub use Rattle.course_laws.specs.RunLaws.{at_node, NodeKept, RunLaws, MembersFit}
-use Rattle.course_laws.proofs.Growing.{AreSilent, decided_still}
-use Rattle.course_laws.proofs.Ahead.{write_not_view}
+use Rattle.course_laws.proofs.Growing.{all_at, decided_still}
 use Rattle.course_laws.proofs.KeptLaws.{kept_laws, ends_idle}
 use Rattle.course_laws.proofs.CourseSteps.{next_kept}
 use Rattle.course_laws.proofs.CourseEnds.{start_course_kept}
-use Rattle.course_laws.proofs.RunSteps.{set_here, Turns, Remains, Renews, StepOf, cluster_step_of}
+use Rattle.course_laws.proofs.RunSteps.{set_here, silent_from, Turns, Remains, Renews, StepOf, cluster_step_of}
 
 -- ---- every write set in the order
-other_silent : (k member : ℕ) (ms : List Message) → (member ≡ k → ⊥)
-    → AreSilent k (map (event_of member) ms)
-other_silent k member [] other = tt
-other_silent k member (message.Write body ∷ ms) other = (
-  ap (λ b. cond b (Some (message.Write body)) None) (unequal member k other),
-  other_silent k member ms other,
-)
-other_silent k member (message.Report number ∷ ms) other = (
-  ap (λ b. cond b (Some (message.Report number)) None) (unequal member k other),
-  other_silent k member ms other,
-)
-
 module _ (c : ModelCluster) (were : AllAreDecided c.order) where
   -- those that are new are of a node's member
   sent_decided : (member : ℕ) (front : List Message)
       → OwnAreDecided (c.order ++ map (event_of member) front) member
       → AllAreDecided (c.order ++ map (event_of member) front)
-  sent_decided member front own k = by (member == k) refl
-    where
-      by : (b : Bool) → member == k ≡ b
-          → OwnAreDecided (c.order ++ map (event_of member) front) k
-      by true same =
-          subst (OwnAreDecided (c.order ++ map (event_of member) front)) (equal member k same) own
-      by false other =
-          decided_still c.order (map (event_of member) front) k (were k)
-          (other_silent k member front
-          (λ same. true≢false (sym (eq-eqb member k same) ∙ other)))
+  sent_decided member front own k =
+      let more = map (event_of member) front in
+      elim (cases_eq member k) [
+        | inl same ↦ subst (OwnAreDecided (c.order ++ more)) same own
+        | inr other ↦
+            decided_still c.order more k (were k)
+            (silent_from k more (other_messages k member other front))
+      ]
 
   stepped_decided : (may : ModelNode → Type 0) (can : Type 0) (ordered : ℕ) (d : ModelCluster)
       → Stepped c may can ordered d
       → ((i : ℕ) (n : ModelNode) → slice_get d.nodes i ≡ Some n
       → OwnAreDecided d.order n.at.member)
       → AllAreDecided d.order
-  stepped_decided may can ordered d Still own = were
-  stepped_decided may can ordered d (Moved i n m there row) own = were
   stepped_decided may can ordered d (Ordered i n m front back there is row) own =
       let order = c.order ++ map (event_of n.at.member) front in
       let sent = with_ordered n front back in
@@ -81,10 +64,7 @@ module _ (c : ModelCluster) (were : AllAreDecided c.order) where
   stepped_decided may can ordered d (Joined i n fresh there left all joins) own =
       (λ k. decided_still c.order (view_with c.order (new_member c.order) ∷ []) k (were k)
       (refl, tt))
-  stepped_decided may can ordered d (Received i n donor there joining gives more viewed) own =
-      were
-  stepped_decided may can ordered d (Installed i n donor there joining gives same viewed) own =
-      were
+  stepped_decided may can ordered d _ own = were
 
 -- ---- the laws of a cluster
 module _ (most : ℕ) (c : ModelCluster) (h : RunLaws most c) where
@@ -133,41 +113,28 @@ module _ (most : ℕ) (small : most < 2 ^ 63) (c : ModelCluster) (h : RunLaws mo
         (subst (λ (x : Course). length x.order ≤ 2 ^ 63) (sym step_in.leads) short_next))
 
     -- no other node has a member that it was
-    all_below : AllByRecursion (λ x. x < new_member c.order) (n.at.member ∷ k.former)
-    all_below =
+    not_new : AllByRecursion (λ x. new_member c.order ≡ x → ⊥) (n.at.member ∷ k.former)
+    not_new =
         let known = k.kept.known in (
-          omega (arith, known),
-          all_each (λ x. x < n.at.member) (λ x. x < new_member c.order)
-              (λ x below. omega (arith, below, known)) k.former k.kept.below,
+          λ same. omega (arith, known, same),
+          all_each (λ x. x < n.at.member) (λ x. new_member c.order ≡ x → ⊥)
+              (λ x below same. omega (arith, below, known, same)) k.former k.kept.below,
         )
-
-    not_new : (xs : List ℕ) → AllByRecursion (λ x. x < new_member c.order) xs
-        → AllByRecursion (λ x. new_member c.order ≡ x → ⊥) xs
-    not_new xs = all_each (λ x. x < new_member c.order) (λ x. new_member c.order ≡ x → ⊥)
-        (λ x below same. omega (arith, same, below)) xs
 
     module _ (j : ℕ) (m : ModelNode) (other : slice_get c.nodes j ≡ Some m) (beside : j ≡ i → ⊥)
         (one : ModelNode) where
-      apart_with : (x : ℕ) (xs ys : List ℕ) → xs ≡ ys → one.at.member ≡ x
-          → AllByRecursion (λ y. x ≡ y → ⊥) ys → AllByRecursion (λ y. one.at.member ≡ y → ⊥) xs
-      apart_with x xs ys same is all =
-          subst (AllByRecursion (λ y. one.at.member ≡ y → ⊥)) (sym same)
-          (subst (λ z. AllByRecursion (λ y. z ≡ y → ⊥) ys) (sym is) all)
-
       apart_by : (former : List ℕ) (ones : List ℕ)
           → Turns c.order n k.former step_in.node step_in.now → Turns c.order m former one ones
           → AllByRecursion (λ y. one.at.member ≡ y → ⊥) step_in.now
       apart_by former ones (Remains same stays) (Remains too stay) =
-          apart_with m.at.member step_in.now k.former stays too (k.apart j m other beside)
-      apart_by former ones (Remains same stays) (Renews too joins) =
-          apart_with (new_member c.order) step_in.now k.former stays too
-          (not_new k.former all_below.1)
+          rw (too, stays) (k.apart j m other beside)
+      apart_by former ones (Remains same stays) (Renews too joins) = rw (too, stays) not_new.1
       apart_by former ones (Renews same joins) (Remains too stay) =
-          apart_with m.at.member step_in.now (n.at.member ∷ k.former) joins too
-          (λ is. beside (h.sound.differ j i m n other there is), k.apart j m other beside)
-      apart_by former ones (Renews same joins) (Renews too join) =
-          apart_with (new_member c.order) step_in.now (n.at.member ∷ k.former) joins too
-          (not_new (n.at.member ∷ k.former) all_below)
+          rw (too, joins) (
+            λ is. beside (h.sound.differ j i m n other there is),
+            k.apart j m other beside,
+          )
+      apart_by former ones (Renews same joins) (Renews too join) = rw (too, joins) not_new
 
   pub apart_next : (i : ℕ) (n : ModelNode) (there : slice_get c.nodes i ≡ Some n)
       (k : NodeKept most c i n) (j : ℕ) (m : ModelNode)
@@ -193,7 +160,7 @@ module _ (most : ℕ) (small : most < 2 ^ 63) (c : ModelCluster) (h : RunLaws mo
         former = s.now;
         kept = subst (λ x. CourseKept (most + 1) (at_node (cluster_step c step).1.order x s.now))
             same (course_next i was.old was.there k);
-        apart = λ j m other beside. apart_next i was.old was.there k j m other beside;
+        apart = apart_next i was.old was.there k;
       }
 
   -- what is kept of a cluster each step keeps
@@ -226,38 +193,12 @@ module _ (most least : ℕ) (c : ModelCluster) (h : RunLaws most c) (size : give
       members = h.sound.members;
       nodes = λ i n there.
           let s = h.sound.nodes i n there in
-          let below = node_below c.nodes i n there in record {
-            facts = s.facts;
-            in_step = s.in_step;
-            cleared = s.cleared;
-            waits = s.waits;
-            idle = s.idle;
-            serial = omega (arith, size, below);
-            begin = omega (arith, size, below);
-            member = s.member;
-            known = s.known;
-          };
+          let below = node_below c.nodes i n there in search (arith, size, below);
     };
     nodes = λ i n there.
         let k = h.nodes i n there in
-        let below = node_below c.nodes i n there in record {
-          former = k.former;
-          kept = record {
-            kept = record {
-              follows = k.kept.kept.follows;
-              decided = k.kept.kept.decided;
-              none_behind = k.kept.kept.none_behind;
-              serial = omega (arith, size, below);
-              begin = omega (arith, size, below);
-            };
-            small = k.kept.small;
-            viewed = k.kept.viewed;
-            known = k.kept.known;
-            below = k.kept.below;
-            former = k.kept.former;
-          };
-          apart = k.apart;
-        };
+        let below = node_below c.nodes i n there in
+        record { former = k.former; kept = search (arith, size, below); apart = k.apart };
     decided = h.decided;
   }
 
@@ -266,30 +207,14 @@ run_laws_given most c h = run_laws_within most (given c) c h (omega arith)
 
 -- ---- the start
 start_none : (nodes member : ℕ) → OwnAreDecided (start_order nodes) member
-start_none nodes member zero body there = absurd (write_not_view member 1 body (up_to nodes)
-    (same_Some (event.Write member body) (event.View 1 (up_to nodes)) (sym there)))
+start_none nodes member zero body there = cc
 start_none nodes member (suc k) body there = cc
-
-pub numbered : (nodes : ℕ) → AllByRecursion (λ m. m ≤ nodes) (up_to nodes)
-numbered zero = tt
-numbered (suc nodes) =
-    all_push (λ m. m ≤ suc nodes) (up_to nodes) (suc nodes)
-    (all_each (λ m. m ≤ nodes) (λ m. m ≤ suc nodes) (λ m h. omega (arith, h)) (up_to nodes)
-    (numbered nodes)) (omega arith)
-
-all_get : (P : ℕ → Type 0) (xs : List ℕ) → AllByRecursion P xs → (k x : ℕ)
-    → slice_get xs k ≡ Some x → P x
-all_get P [] all k x there = cc
-all_get P (y ∷ xs) all zero x there = subst P (same_Some y x there) all.0
-all_get P (y ∷ xs) all (suc k) x there = all_get P xs all.1 k x there
 
 pub run_laws_start : (nodes gcache : ℕ) (id : List ℕ) → nodes < 2 ^ 32
     → RunLaws 1 (start_cluster nodes gcache id)
 unfolding start_cluster
 run_laws_start nodes gcache id few =
-    let small : AllByRecursion (λ m. m < 2 ^ 32) (up_to nodes) =
-    all_each (λ m. m ≤ nodes) (λ m. m < 2 ^ 32) (λ m h. omega (arith, h, few)) (up_to nodes)
-    (numbered nodes) in record {
+    let small = up_to_below nodes (2 ^ 32) few in record {
       sound = start_sound nodes gcache id small;
       nodes = λ i n there.
           let at = starts_at gcache id (up_to nodes) i n there in record {
@@ -297,7 +222,7 @@ run_laws_start nodes gcache id few =
             kept = subst (λ x. CourseKept 1 (at_node (start_order nodes) x [])) at.is
                 (start_course_kept nodes gcache at.member id
                 (among_at (up_to nodes) i at.member at.there)
-                (all_get (λ m. m < 2 ^ 32) (up_to nodes) small i at.member at.there));
+                (all_at (λ m. m < 2 ^ 32) (up_to nodes) small i at.member at.there));
             apart = λ j m other beside. tt;
           };
       decided = start_none nodes;

@@ -1,8 +1,8 @@
 -- What a node sends goes on from what is pending; and what holds over the order so far holds when a
 -- transaction begins, changes or ends.
-use Rattle.std.proofs.Common.{◌≡◌, ℕ, ◌+◌, ◌≤◌, List, [], ◌∷◌, ◌++◌, length, Option, Some, refl, ap, sym, subst, ◌∙◌, arith, true≢false}
-use Rattle.std.specs.Prelude.{◌==◌, IsTrue, nat_le, max, not, is_some, unwrap_or}
-use Rattle.std.specs.List.{filter_map, cons_option}
+use Rattle.std.proofs.Common.{◌≡◌, ℕ, ◌+◌, ◌≤◌, List, [], ◌∷◌, ◌++◌, length, Option, Some, refl, ap, sym, subst, ◌∙◌, arith, true≢false, false}
+use Rattle.std.specs.Prelude.{◌==◌, max, not, is_some, unwrap_or}
+use Rattle.std.specs.List.{AllByRecursion, filter_map}
 use Rattle.std.specs.Option.{option_map}
 use Rattle.std.specs.Ordering.{nat_cmp}
 use Rattle.std.proofs.lemmas.Bool.Decides.{nat_tests}
@@ -19,13 +19,14 @@ use Rattle.write_set.specs.Reading.{decoded}
 use Rattle.write_set.specs.Spelling.{spelling}
 use Rattle.cert_meaning.specs.declared.items.Fragment.{Fragment}
 use Rattle.cert_meaning.specs.State.{FoldState, is_open, fragments_of, last_seen_of}
+use Rattle.cert_meaning.specs.Verdict.{is_broken}
 use Rattle.cert_meaning.specs.Fold.{state_at}
-use Rattle.client_trx.specs.Live.{Live, with_status, commit_of, fragment_of, fragment_sent, rollback_of}
+use Rattle.client_trx.specs.Live.{Live, with_status, gathered, fragment_flags, commit_flags, commit_of, fragment_of, fragment_sent, rollback_of}
 use Rattle.client_trx.specs.declared.status.Status.{Status}
 use Rattle.client_trx.specs.declared.status.Status.TheVariants as status
 use Rattle.node_meaning.specs.Node.{ModelNode}
 use Rattle.node_meaning.specs.Steps.{put_report}
-use Rattle.node_meaning.specs.Facts.{Facts, ProgressInRange, StandsBy, Gathered, sets_of, pending, pending_in}
+use Rattle.node_meaning.specs.Facts.{Facts, ProgressInRange, SerialsRise, StandsBy, Gathered, sets_of, pending, pending_in}
 use Rattle.node_meaning.proofs.ClientFacts.{first}
 use Rattle.node_meaning.proofs.RangeLaws.{commit-decoded, fragment-decoded, rollback-decoded}
 use Rattle.node_meaning.proofs.SentLaws.{pending-sent, pending-reported}
@@ -35,9 +36,6 @@ use Rattle.node_laws.specs.InStep.{messages_behind}
 use Rattle.course_laws.specs.Ordered.{pending_sets, seen_in, seen_ahead, Rises, IsPlaced, AllEnd, GoesOn, Entered, OrderedFacts}
 use Rattle.course_laws.proofs.PendingSets.{sets_lined}
 use Rattle.course_laws.proofs.Placing.{fragment_placed, commit_placed, ends_push, ends_rollback, rises_push, rises_higher}
-
-few_of : (k most : ℕ) → IsTrue (nat_le k most) → k ≤ most
-few_of k most is = grind (arith, nat_tests)
 
 module _ (order : List Event) (n : ModelNode) (f : Facts order n) (h : OrderedFacts order n) where
   abbrev m : ℕ
@@ -58,23 +56,26 @@ module _ (order : List Event) (n : ModelNode) (f : Facts order n) (h : OrderedFa
   abbrev Goes : Live → Type 0
   Goes t = GoesOn s n.at.view p t
 
-  -- ---- nothing is sent
-  over : (begin : ℕ) → n.at.begin ≤ begin → (now : FiniteMap nat_cmp Live)
+  -- with more of what it sends, and other live transactions
+  entered_now : (begin serial : ℕ) (now : FiniteMap nat_cmp Live) (ws : List WriteSet)
+      (ks : List ℕ) → n.at.begin ≤ begin → SerialsRise h.standing.serial ws serial
+      → Rises h.standing.report ks (max p n.at.view) → AllByRecursion (IsPlaced s) ws → AllEnd ws
       → ((se : ℕ) (t : Live) → get now se ≡ Some t → Goes t)
-      → Entered s m n.at.view begin n.at.serial p now sets seen
-  over begin later now each = record {
+      → Entered s m n.at.view begin serial p now ws ks
+  entered_now begin serial now ws ks later serials rises placed ends each = record {
     entered = h.entered;
     standing = h.standing;
     is_member = h.is_member;
     floor = h.floor;
-    serials = h.serials;
-    rises = h.rises;
-    placed = h.placed;
-    ends = h.ends;
+    serials = serials;
+    rises = rises;
+    placed = placed;
+    ends = ends;
     each = each;
     unbegun = λ trx member above. h.unbegun trx member (omega (arith, above, later));
   }
 
+  -- ---- nothing is sent
   put_goes : (se : ℕ) (u : Live) → Goes u → (q : ℕ) (t : Live)
       → get (insert n.live se u) q ≡ Some t → Goes t
   put_goes se u = each_put numbers n.live se (λ _ t. Goes t) h.each u
@@ -83,13 +84,14 @@ module _ (order : List Event) (n : ModelNode) (f : Facts order n) (h : OrderedFa
   left_goes se = each_left numbers n.live se (λ _ t. Goes t) h.each
 
   pub put_entered : (se : ℕ) (u : Live) → Goes u
-      → Entered s m n.at.view n.at.begin n.at.serial p (insert n.live se u) sets
-      seen
-  put_entered se u goes = over n.at.begin (omega arith) (insert n.live se u) (put_goes se u goes)
+      → Entered s m n.at.view n.at.begin n.at.serial p (insert n.live se u) sets seen
+  put_entered se u goes = entered_now n.at.begin n.at.serial (insert n.live se u) sets seen
+      (omega arith) h.serials h.rises h.placed h.ends (put_goes se u goes)
 
   pub left_entered : (se : ℕ)
       → Entered s m n.at.view n.at.begin n.at.serial p (remove n.live se) sets seen
-  left_entered se = over n.at.begin (omega arith) (remove n.live se) (left_goes se)
+  left_entered se = entered_now n.at.begin n.at.serial (remove n.live se) sets seen (omega arith)
+      h.serials h.rises h.placed h.ends (left_goes se)
 
   -- ---- a transaction begins
   begun_goes : n.at.view ≤ p → (unit : ℕ) → Goes (first m n.at.begin unit)
@@ -100,8 +102,7 @@ module _ (order : List Event) (n : ModelNode) (f : Facts order n) (h : OrderedFa
         sent = λ running. record {
           opened = ap is_some none;
           count = ap (λ (o : Option (List Fragment)). length (unwrap_or o [])) none;
-          seen = subst (λ (o : Option (List Fragment)). last_seen_of (unwrap_or o []) ≤ p)
-              (sym none) (omega arith);
+          seen = rw none (omega arith);
         };
       }
 
@@ -109,8 +110,9 @@ module _ (order : List Event) (n : ModelNode) (f : Facts order n) (h : OrderedFa
       → Entered s m n.at.view (n.at.begin + 1) n.at.serial p
       (insert n.live se (first m n.at.begin unit)) sets seen
   begun_entered synced se unit =
-      over (n.at.begin + 1) (omega arith) (insert n.live se (first m n.at.begin unit))
-      (put_goes se (first m n.at.begin unit) (begun_goes synced unit))
+      let u = first m n.at.begin unit in
+      entered_now (n.at.begin + 1) n.at.serial (insert n.live se u) sets seen (omega arith)
+      h.serials h.rises h.placed h.ends (put_goes se u (begun_goes synced unit))
 
   -- ---- what is sent has seen all that is committed, and so no less than what was sent before
   synced_rises : n.at.view ≤ p → Rises h.standing.report (seen ++ p ∷ []) (max p n.at.view)
@@ -125,51 +127,21 @@ module _ (order : List Event) (n : ModelNode) (f : Facts order n) (h : OrderedFa
   seen_sent : (x : Message) → seen_in x ≡ Some p → seen_more x ≡ seen ++ p ∷ []
   seen_sent x is =
       let behind = messages_behind m n.at.certified order in
-      ap (filter_map seen_in) (sym (append_assoc behind n.outbox (x ∷ [])))
-      ∙ filter_map-append seen_in (behind ++ n.outbox) (x ∷ [])
-      ∙ ap (λ o. seen ++ cons_option o []) is
+      rw (
+        ← append_assoc behind n.outbox (x ∷ []),
+        filter_map-append seen_in (behind ++ n.outbox) (x ∷ []),
+        is,
+      )
 
   -- a report
   pub report_entered : n.at.view ≤ p → OrderedFacts order (put_report n)
   report_entered synced =
-      subst (Entered s m n.at.view n.at.begin n.at.serial p n.live
-      (pending_sets order (put_report n)))
-      (sym (seen_sent (message.Report p) refl))
-      (subst (λ bodies. Entered s m n.at.view n.at.begin n.at.serial p n.live
-      (filter_map decoded bodies) (seen ++ p ∷ []))
-      (pending-reported order m n.at.certified n.at.taken n.ordered n.outbox p)
-      (record {
-        entered = h.entered;
-        standing = h.standing;
-        is_member = h.is_member;
-        floor = h.floor;
-        serials = h.serials;
-        rises = synced_rises synced;
-        placed = h.placed;
-        ends = h.ends;
-        each = h.each;
-        unbegun = h.unbegun;
-      }))
+      let bodies = pending-reported order m n.at.certified n.at.taken n.ordered n.outbox p in
+      rw (seen_sent (message.Report p) refl, ← bodies)
+      (entered_now n.at.begin n.at.serial n.live sets (seen ++ p ∷ []) (omega arith) h.serials
+      (synced_rises synced) h.placed h.ends h.each)
 
-  -- ---- one more write set is sent
-  pushed : (w : WriteSet) → w.serial ≡ n.at.serial → n.at.view ≤ p
-      → IsPlaced s w → AllEnd (sets ++ w ∷ []) → (now : FiniteMap nat_cmp Live)
-      → ((se : ℕ) (t : Live) → get now se ≡ Some t → Goes t)
-      → Entered s m n.at.view n.at.begin (n.at.serial + 1) p now (sets ++ w ∷ []) (seen ++ p ∷ [])
-  pushed w number synced placed ends now each = record {
-    entered = h.entered;
-    standing = h.standing;
-    is_member = h.is_member;
-    floor = h.floor;
-    serials = serials_push h.standing.serial sets n.at.serial w number h.serials;
-    rises = synced_rises synced;
-    placed = all_push (IsPlaced s) sets w h.placed placed;
-    ends = ends;
-    each = each;
-    unbegun = h.unbegun;
-  }
-
-  -- its bytes are behind what was pending
+  -- one more write set: its bytes are behind what was pending
   abbrev OverMore : ℕ → List ℕ → FiniteMap nat_cmp Live → Type 0
   OverMore serial body now =
       Entered s m n.at.view n.at.begin serial p now
@@ -177,21 +149,20 @@ module _ (order : List Event) (n : ModelNode) (f : Facts order n) (h : OrderedFa
       (n.ordered ++ (n.outbox ++ message.Write body ∷ [])))) (seen_more (message.Write body))
 
   sent_more : (w : WriteSet) (now : FiniteMap nat_cmp Live) → decoded (spelling w) ≡ Some w
-      → w.last_seen ≡ p
-      → Entered s m n.at.view n.at.begin (n.at.serial + 1) p now (sets ++ w ∷ []) (seen ++ p ∷ [])
+      → w.last_seen ≡ p → w.serial ≡ n.at.serial → n.at.view ≤ p → IsPlaced s w
+      → AllEnd (sets ++ w ∷ []) → ((se : ℕ) (t : Live) → get now se ≡ Some t → Goes t)
       → OverMore (n.at.serial + 1) (spelling w) now
-  sent_more w now read is entered =
-      subst (Entered s m n.at.view n.at.begin (n.at.serial + 1) p now (filter_map decoded
-      (pending_in order m n.at.certified n.at.taken
-      (n.ordered ++ (n.outbox ++ message.Write (spelling w) ∷ [])))))
-      (sym (seen_sent (message.Write (spelling w))
-      (ap (option_map (λ (x : WriteSet). x.last_seen)) read ∙ ap Some is)))
-      (subst (λ now_sets. Entered s m n.at.view n.at.begin (n.at.serial + 1) p now now_sets
-      (seen ++ p ∷ []))
-      (sym (ap (filter_map decoded) (pending-sent order m n.at.certified n.at.taken n.ordered
-      n.outbox (spelling w))
-      ∙ filter_map-append decoded (pending order n) (spelling w ∷ [])
-      ∙ ap (λ o. sets ++ cons_option o []) read)) entered)
+  sent_more w now read is number synced placed ends each =
+      rw (
+        seen_sent (message.Write (spelling w))
+            (ap (option_map (λ (x : WriteSet). x.last_seen)) read ∙ ap Some is),
+        pending-sent order m n.at.certified n.at.taken n.ordered n.outbox (spelling w),
+        filter_map-append decoded (pending order n) (spelling w ∷ []),
+        read,
+      )
+      (entered_now n.at.begin (n.at.serial + 1) now (sets ++ w ∷ []) (seen ++ p ∷ []) (omega arith)
+      (serials_push h.standing.serial sets n.at.serial w number h.serials) (synced_rises synced)
+      (all_push (IsPlaced s) sets w h.placed placed) ends each)
 
   -- ---- a live transaction
   module _ (se : ℕ) (t : Live) (there : get n.live se ≡ Some t) where
@@ -209,9 +180,9 @@ module _ (order : List Event) (n : ModelNode) (f : Facts order n) (h : OrderedFa
         let w = rollback_of t n.at.serial p in
         let was = (sets_lined order n f).each se t there in
         sent_more w (remove n.live se)
-        (rollback-decoded n.at t range was.of_member was.begun (f.sendable se t there)) refl
-        (pushed w refl (h.each se t there).synced (λ back. absurd (true≢false back))
-        (ends_rollback sets w refl h.ends) (remove n.live se) (left_goes se))
+        (rollback-decoded n.at t range was.of_member was.begun (f.sendable se t there)) refl refl
+        (h.each se t there).synced (λ back. absurd (true≢false back))
+        (ends_rollback sets w refl h.ends) (left_goes se)
 
   -- ---- one that is Running
   module _ (se : ℕ) (t : Live) (here : IsRunning n se t) where
@@ -220,7 +191,7 @@ module _ (order : List Event) (n : ModelNode) (f : Facts order n) (h : OrderedFa
         ((sets_lined order n f).each se t here.there).stands
 
     few : len t.keys ≤ LIMIT
-    few = few_of (len t.keys) LIMIT (f.sendable se t here.there).fit.few_keys
+    few = let is = (f.sendable se t here.there).fit.few_keys in grind (arith, nat_tests, is)
 
     -- it goes on
     pub again : (u : Live) → u.trx ≡ t.trx → u.sent ≡ t.sent → Goes u
@@ -235,38 +206,39 @@ module _ (order : List Event) (n : ModelNode) (f : Facts order n) (h : OrderedFa
           };
         }
 
+    -- what it gathered is sent, and it rests
+    sent_on : (flags : ℕ) (u : Live) → is_broken s (gathered t n.at.serial p flags) ≡ false
+        → decoded (spelling (gathered t n.at.serial p flags))
+        ≡ Some (gathered t n.at.serial p flags) → (u.status ≡ status.Running → ⊥)
+        → OverMore (n.at.serial + 1) (spelling (gathered t n.at.serial p flags))
+        (insert n.live se u)
+    sent_on flags u placed read rests =
+        let w = gathered t n.at.serial p flags in
+        sent_more w (insert n.live se u) read refl refl (h.each se t here.there).synced
+        (λ back. placed) (ends_push sets w idle.0 h.ends)
+        (put_goes se u (resting se t here.there u rests))
+
     -- its fragment is sent
     pub fragment_entered : ProgressInRange n.at
         → OverMore (n.at.serial + 1) (spelling (fragment_of t n.at.serial p))
         (insert n.live se (fragment_sent t))
     fragment_entered range =
-        let w = fragment_of t n.at.serial p in
-        let goes = h.each se t here.there in
         let was = (sets_lined order n f).each se t here.there in
-        let now = insert n.live se (fragment_sent t) in
-        sent_more w now
-        (fragment-decoded n.at t range was.of_member was.begun (f.sendable se t here.there)) refl
-        (pushed w refl goes.synced
-        (λ back. fragment_placed s t n.at.serial p (goes.sent here.running) idle.1 few)
-        (ends_push sets w idle.0 h.ends) now
-        (put_goes se (fragment_sent t) (resting se t here.there (fragment_sent t) (λ is. cc))))
+        sent_on (fragment_flags t.sent) (fragment_sent t)
+        (fragment_placed s t n.at.serial p ((h.each se t here.there).sent here.running) idle.1 few)
+        (fragment-decoded n.at t range was.of_member was.begun (f.sendable se t here.there))
+        (λ is. cc)
 
     -- its commit is sent
     pub commit_entered : ProgressInRange n.at
         → OverMore (n.at.serial + 1) (spelling (commit_of t n.at.serial p))
         (insert n.live se (with_status t status.CommitSent))
     commit_entered range =
-        let w = commit_of t n.at.serial p in
-        let goes = h.each se t here.there in
         let was = (sets_lined order n f).each se t here.there in
-        let sent = with_status t status.CommitSent in
-        let now = insert n.live se (with_status t status.CommitSent) in
-        sent_more w now
-        (commit-decoded n.at t range was.of_member was.begun (f.sendable se t here.there)) refl
-        (pushed w refl goes.synced
-        (λ back. commit_placed s t n.at.serial p (goes.sent here.running) idle.1 few)
-        (ends_push sets w idle.0 h.ends) now
-        (put_goes se sent (resting se t here.there sent (λ is. cc))))
+        sent_on (commit_flags t.sent) (with_status t status.CommitSent)
+        (commit_placed s t n.at.serial p ((h.each se t here.there).sent here.running) idle.1 few)
+        (commit-decoded n.at t range was.of_member was.begun (f.sendable se t here.there))
+        (λ is. cc)
 
 -- one that lost its locks is not Running
 pub not_running : (from to : Status) → Unlocked from to → to ≡ status.Running → ⊥

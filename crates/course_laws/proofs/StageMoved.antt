@@ -1,16 +1,16 @@
 -- Every move keeps the stage of a node: that it has not certified its member's view, has nothing
 -- live and has sent nothing, or what holds over the order so far.
-use Rattle.std.proofs.Common.{◌≡◌, ℕ, ◌+◌, ◌≤◌, ◌<◌, Bool, true, false, cond, List, [], ◌++◌, length, Option, Some, None, refl, ap, sym, subst, ◌∙◌, arith, eq-eqb, ltb-true, ltb-false}
-use Rattle.std.specs.Prelude.{◌==◌, max, nat_lt, slice_get}
-use Rattle.std.specs.List.{filter_map, cons_option}
+use Rattle.std.proofs.Common.{◌≡◌, ℕ, ◌+◌, ◌≤◌, ◌<◌, true, false, cond, List, [], ◌++◌, length, Option, Some, None, refl, ap, sym, subst, ◌∙◌, arith, eq-eqb, inl, inr}
+use Rattle.std.specs.Prelude.{◌==◌, max, slice_get}
+use Rattle.std.specs.List.{cons_option}
 use Rattle.std.specs.Ordering.{nat_cmp}
+use Rattle.std.proofs.lemmas.Bool.{cases_lt}
 use Rattle.std.proofs.lemmas.Option.{same_Some, slice_get_within}
 use Rattle.finite_map.specs.FiniteMap.{FiniteMap, get, remove}
 use Rattle.finite_map.proofs.Edits.{numbers, left}
 use Rattle.order_event.specs.declared.event.Event.{Event}
 use Rattle.order_event.specs.declared.event.Event.TheVariants as event
 use Rattle.order_event.specs.declared.event.Message.TheVariants as message
-use Rattle.write_set.specs.Reading.{decoded}
 use Rattle.cert_meaning.specs.State.{FoldState}
 use Rattle.cert_meaning.specs.Fold.{state_at}
 use Rattle.cert_meaning.proofs.FoldLaws.{number-at}
@@ -22,10 +22,10 @@ use Rattle.node_laws.specs.InStep.{message_of, messages_behind}
 use Rattle.node_laws.proofs.Moves.{Kind, Pays, Move, Begins, Extends, Streams, Sends, Ends, TakesBack, Unlocks, Reports, Orders, Leaves, Takes, Certifies, Passes, Fails, Advances, Commits, May, MayCertify, with_certified, ended_with}
 use Rattle.node_laws.proofs.Sendable.{due_is}
 use Rattle.node_laws.proofs.SentMoved.{takes_pending, certifies_pending}
-use Rattle.course_laws.specs.Ordered.{pending_sets, seen_in, messages_ahead, seen_ahead, GoesOn, Entered, OrderedFacts, Keeps, IsEarly, Stage, Early, Since}
+use Rattle.course_laws.specs.Ordered.{pending_sets, messages_ahead, seen_ahead, GoesOn, Entered, OrderedFacts, Keeps, IsEarly, Stage, Early, Since}
 use Rattle.course_laws.proofs.Placing.{rises_higher}
 use Rattle.course_laws.proofs.PendingSets.{ahead_next, within_order}
-use Rattle.course_laws.proofs.Newcoming.{newcomer_entered}
+use Rattle.course_laws.proofs.Newcoming.{none_first, newcomer_entered}
 use Rattle.course_laws.proofs.Sending.{put_entered, left_entered, begun_entered, resting, again, taken_back_entered, fragment_entered, commit_entered, report_entered, not_running}
 use Rattle.course_laws.proofs.Certifying.{certified_ordered, passes_ordered, fails_ordered}
 
@@ -56,14 +56,6 @@ module _ (order : List Event) (n : ModelNode) (h : OrderedFacts order n) where
         (h.each se t (were se t there));
     unbegun = h.unbegun;
   }
-
-  -- what is pending is in other places
-  same_pending : (bodies : List (List ℕ)) → pending order n ≡ bodies
-      → Entered (state_at order n.at.certified) n.at.member n.at.view n.at.begin n.at.serial
-      n.at.committed n.live (filter_map decoded bodies) (seen_ahead order n)
-  same_pending bodies same =
-      subst (λ bs. Entered (state_at order n.at.certified) n.at.member n.at.view n.at.begin
-      n.at.serial n.at.committed n.live (filter_map decoded bs) (seen_ahead order n)) same h
 
 -- ---- since the node certified the view of its member
 module _ (order : List Event) (n : ModelNode) (f : Facts order n) (h : OrderedFacts order n) where
@@ -96,7 +88,7 @@ module _ (order : List Event) (n : ModelNode) (f : Facts order n) (h : OrderedFa
   ordered_moved given g k m synced keeps may (Orders front back is) = absurd may
   ordered_moved given g k m synced keeps may (Leaves stay) = absurd may
   ordered_moved given g k m synced keeps may (Takes e ordered there leaves) =
-      same_pending order n h _ (takes_pending order n f.in_order f.sent e ordered there leaves)
+      rw (← takes_pending order n f.in_order f.sent e ordered there leaves) h
   ordered_moved given g k m synced keeps may (Certifies e next) =
       certified_ordered order n f h e next (keeps e next.more next.next)
   ordered_moved given g k m synced keeps may (Passes se t body w judged pass) =
@@ -111,10 +103,6 @@ module _ (order : List Event) (n : ModelNode) (f : Facts order n) (h : OrderedFa
   ordered_moved given g k m synced keeps may _ = h
 
 -- ---- before that
-none_rest : {X : Type 0} (o : Option X) (xs : List X) → cons_option o xs ≡ [] → xs ≡ []
-none_rest None xs is = is
-none_rest (Some x) xs is = cc
-
 none_later : {X : Type 0} (o : Option X) (xs ys : List X) → cons_option o xs ++ ys ≡ []
     → xs ++ ys ≡ []
 none_later None xs ys is = is
@@ -136,24 +124,14 @@ module _ (order : List Event) (n : ModelNode) (f : Facts order n)
   module _ (e : Event) (may : MayCertify order n e) where
     nothing_next : pending order (with_certified n) ≡ []
     nothing_next =
-        none_rest (own_body n.at.member e) (pending order (with_certified n))
-        (sym (certifies_pending order n f.in_order f.sent may.more e may.next) ∙ h.nothing)
+        (none_first (own_body n.at.member e) (pending order (with_certified n))
+        (sym (certifies_pending order n f.in_order f.sent may.more e may.next) ∙ h.nothing)).1
 
     silent_next : messages_ahead order (with_certified n) ≡ []
     silent_next =
         none_later (message_of n.at.member e)
         (messages_behind n.at.member (n.at.certified + 1) order) n.outbox
         (sym (ahead_next order n e (message_of n.at.member e) may.next refl) ∙ h.silent)
-
-    still_early : n.at.certified + 1 < n.at.view → Stage order (with_certified n)
-    still_early below = Early (record {
-      before = below;
-      newcomer = h.newcomer;
-      positive = h.positive;
-      idle = h.idle;
-      nothing = nothing_next;
-      silent = silent_next;
-    })
 
     -- the view of its member is certified
     module _ (last : n.at.view ≤ n.at.certified + 1) where
@@ -176,37 +154,17 @@ module _ (order : List Event) (n : ModelNode) (f : Facts order n)
           let within = slice_get_within order h.newcomer.before view_event h.newcomer.opens in
           newcomer_entered order n.at.member n.at.view h.newcomer (n.at.certified + 1)
           (omega (arith, within, here))
-          (λ j g from before there.
-          subst (λ x. message_of n.at.member x ≡ None) (sym (next_at j g from before there)) refl)
-          (λ j g from before there.
-          subst (Keeps n.at.member) (sym (next_at j g from before there)) h.newcomer.has)
+          (λ j g from before there. rw (next_at j g from before there))
+          (λ j g from before there. rw (next_at j g from before there) h.newcomer.has)
           (n.at.certified + 1) n.at.begin n.at.serial n.at.committed n.live last (omega arith)
           h.positive h.idle
 
-      view_certified : OrderedFacts order (with_certified n)
-      view_certified =
-          subst (λ bodies. Entered (state_at order (n.at.certified + 1)) n.at.member n.at.view
-          n.at.begin n.at.serial n.at.committed n.live (filter_map decoded bodies)
-          (seen_ahead order (with_certified n))) (sym nothing_next)
-          (subst (λ ms. Entered (state_at order (n.at.certified + 1)) n.at.member n.at.view
-          n.at.begin n.at.serial n.at.committed n.live [] (filter_map seen_in ms)) (sym silent_next)
-          view_entered)
-
-    certified_by : (b : Bool) → nat_lt (n.at.certified + 1) n.at.view ≡ b
-        → Stage order (with_certified n)
-    certified_by true below = still_early (ltb-true (n.at.certified + 1) n.at.view below)
-    certified_by false last = Since (view_certified (ltb-false (n.at.certified + 1) n.at.view last))
-
     early_certified : Stage order (with_certified n)
-    early_certified = certified_by (nat_lt (n.at.certified + 1) n.at.view) refl
-
-  -- what is pending is in other places
-  early_pending : (bodies : List (List ℕ)) → pending order n ≡ bodies
-      → IsEarly order n.at.member n.at.view n.at.certified n.at.serial n.live bodies
-      (messages_ahead order n)
-  early_pending bodies same =
-      subst (λ bs. IsEarly order n.at.member n.at.view n.at.certified n.at.serial n.live bs
-      (messages_ahead order n)) same h
+    early_certified =
+        elim (cases_lt (n.at.certified + 1) n.at.view) [
+          | inl below ↦ Early (search (h, below, nothing_next, silent_next))
+          | inr last ↦ Since (rw (nothing_next, silent_next) (view_entered last))
+        ]
 
   not_synced : n.at.view ≤ n.at.committed → ⊥
   not_synced synced = omega (arith, synced, f.in_order.committed_fits, h.before)
@@ -215,10 +173,8 @@ module _ (order : List Event) (n : ModelNode) (f : Facts order n)
       → (k ≡ Pays → n.at.view ≤ n.at.committed) → May true k → Move order given n k m
       → Stage order m
   early_moved given k m synced may (Begins se unit begins) = absurd (not_synced (synced refl))
-  early_moved given k m synced may (Extends se t change here fits free) =
-      absurd (h.idle se t here.there)
-  early_moved given k m synced may (Streams se t here change range) =
-      absurd (h.idle se t here.there)
+  early_moved given k m synced may (Extends se t _ here _ _) = absurd (h.idle se t here.there)
+  early_moved given k m synced may (Streams se t here _ _) = absurd (h.idle se t here.there)
   early_moved given k m synced may (Sends se t here range) = absurd (h.idle se t here.there)
   early_moved given k m synced may (Ends se t o there) = absurd (h.idle se t there)
   early_moved given k m synced may (TakesBack se t w o there due range) = absurd (h.idle se t there)
@@ -227,12 +183,10 @@ module _ (order : List Event) (n : ModelNode) (f : Facts order n)
   early_moved given k m synced may (Orders front back is) = absurd may
   early_moved given k m synced may (Leaves stay) = absurd may
   early_moved given k m synced may (Takes e ordered there leaves) =
-      Early (early_pending _ (takes_pending order n f.in_order f.sent e ordered there leaves))
+      Early (rw (← takes_pending order n f.in_order f.sent e ordered there leaves) h)
   early_moved given k m synced may (Certifies e next) = early_certified e next
-  early_moved given k m synced may (Passes se t body w judged pass) =
-      absurd (h.idle se t judged.there)
-  early_moved given k m synced may (Fails se t body w v judged came) =
-      absurd (h.idle se t judged.there)
+  early_moved given k m synced may (Passes se t _ _ judged _) = absurd (h.idle se t judged.there)
+  early_moved given k m synced may (Fails se t _ _ _ judged _) = absurd (h.idle se t judged.there)
   early_moved given k m synced may (Commits se t next there is) = absurd (h.idle se t there)
   early_moved given k m synced may _ = Early h
 
