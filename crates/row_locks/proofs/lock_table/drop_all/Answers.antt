@@ -1,7 +1,6 @@
 -- Each key that goes leads to the next, until none is left.
 use Rattle.std.proofs.Common.{sym, subst, ◌∙◌, arith}
 use Rattle.finite_map.specs.Links.{Linked}
-use Rattle.row_locks.specs.LockKeys.{key_of}
 use Rattle.row_locks.specs.LockTable.{links}
 use Rattle.row_locks.proofs.LinkLemmas.{next_found, next_taken, others_stay, all_taken, index_left}
 use Rattle.row_locks.proofs.lock_table.drop_all.Goals as goal
@@ -15,8 +14,8 @@ loop-next-preserved-in-Some-remove c =
     record {
       linked = next_taken _ _ c.args.holder c.in-Some.parts c.remove-in-Some.ensures.updates.0 c.in-Some-remove.lock
           (sym c.in-Some-remove.ensures.value) linked;
-      indexed = index_left _ _ _ _ (key_of c.args.holder c.in-Some.parts) c.loop-next.invariant.indexed c.remove.ensures.index
-          c.remove.ensures.numbers c.remove-in-Some.ensures.updates.0;
+      indexed = index_left _ _ c.args.holder c.in-Some.parts c.remove-in-Some.ensures.updates.0 _ _
+          c.loop-next.invariant.indexed c.remove.ensures.index c.remove.ensures.numbers;
       others = λ key. others_stay _ _ c.args.holder c.in-Some.parts c.remove-in-Some.ensures.updates.0 key ∙ c.loop-next.invariant.others key;
       grown = omega (arith, c.remove-in-Some.ensures.spare, c.loop-next.invariant.grown);
       room = omega (arith, c.remove.ensures.room, c.loop-next.invariant.room);
@@ -25,8 +24,7 @@ loop-next-preserved-in-Some-remove c =
 pub loop-next-preserved : goal.loop-next-preserved
 loop-next-preserved c =
     let linked = subst (Linked (links c.loop-next.locks.entries c.args.holder)) c.in-Some.is c.loop-next.invariant.linked in
-    let found = next_found _ c.args.holder c.in-Some.parts linked in
-    let there = found.1 in let none = c.in-None.ensures.value in cc
+    absurd (next_found _ c.args.holder c.in-Some.parts linked (sym c.in-None.ensures.value))
 
 pub returns-clause-locks : goal.returns-clause-locks
 returns-clause-locks c =

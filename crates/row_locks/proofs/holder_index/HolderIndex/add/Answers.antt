@@ -1,11 +1,12 @@
 -- The new key is numbered after all that are at its parts, of which there are no more than entries.
-use Rattle.std.proofs.Common.{◌+◌, cond, Some, ap, ◌∙◌, arith}
+use Rattle.std.proofs.Common.{ap, ◌∙◌, ◌+◌, Some, arith}
 use Rattle.std.specs.Option.{unwrap_or}
-use Rattle.std.specs.Map.{lookup}
 use Rattle.key_sets.specs.Parts.{parts_eq}
-use Rattle.row_locks.specs.HolderIndex.{place_at, place_eq}
-use Rattle.row_locks.specs.LockKeys.{lock_eq}
-use Rattle.row_locks.proofs.IndexLemmas.{count-le, counted_as, index_more}
+use Rattle.row_locks.specs.HolderIndex.{place_at}
+use Rattle.row_locks.specs.LockKeys.{holder_eq, key_of}
+use Rattle.row_locks.proofs.HolderLemmas.{cond-ap}
+use Rattle.row_locks.proofs.IndexLemmas.{count-le, holder_test, parts_test}
+use Rattle.row_locks.proofs.NumberLemmas.{numbered_more}
 use Rattle.row_locks.proofs.holder_index.HolderIndex.add.Goals as goal
 
 pub prove-unreachable-requires : goal.prove-unreachable-requires
@@ -15,12 +16,9 @@ prove-unreachable-requires c =
 
 pub returns-clause-index : goal.returns-clause-index
 returns-clause-index c =
-    let a = c.args.self.now in let key = c.args.key in
-    let at = c.count-number.ensures in
-    index_more a (record { counts = c.put-3.new.map; holders = c.put-2.new.map; numbers = c.put.new.map }) c.requires.index key.parts (c.count-number.result + 1)
+    let p = c.args.key.parts in let h = c.args.key.holder in
+    numbered_more _ _ _ _ _ _ c.requires.index p (parts_eq p) (parts_test p) h (holder_eq h)
+    (holder_test h) c.count-number.result c.count-number.ensures c.requires.fresh
     (λ r. ap (λ o. unwrap_or o 0) (c.put-3.ensures.values r)
-    ∙ counted_as (parts_eq key.parts r) (c.count-number.result + 1) (lookup (parts_eq r) a.counts.entries))
-    key.holder c.requires.fresh (ap (λ n. n + 1) at)
-    (λ q. c.put-2.ensures.values q
-    ∙ ap (λ n. cond (place_eq (place_at key.parts n) q) (Some key.holder) (lookup (place_eq q) a.holders.entries)) at)
-    (λ k. c.put.ensures.values k ∙ ap (λ n. cond (lock_eq key k) (Some n) (lookup (lock_eq k) a.numbers.entries)) at)
+    ∙ cond-ap (λ o. unwrap_or o 0) (parts_eq p r) (Some (c.count-number.result + 1)) _)
+    (λ r n. c.put-2.ensures.values (place_at r n)) (λ r g. c.put.ensures.values (key_of g r))

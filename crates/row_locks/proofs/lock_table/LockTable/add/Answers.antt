@@ -1,5 +1,5 @@
 -- A key that its holder has keeps its link, and a new one leads to what was the newest.
-use Rattle.std.proofs.Common.{◌≡◌, Some, None, sym, ap, subst, ◌∙◌}
+use Rattle.std.proofs.Common.{◌≡◌, Some, None, refl, sym, ap, subst, ◌∙◌}
 use Rattle.std.specs.Map.{lookup}
 use Rattle.row_locks.specs.declared.lock_table.Lock.{Lock}
 use Rattle.row_locks.specs.LockKeys.{holder_eq, lock_eq, key_of}
@@ -16,8 +16,9 @@ invariant_of-self c =
     let leads =
     ap (λ (l : Lock). l.before) c.raised-lock.ensures
     ∙ ap (λ o. (lock_after o (lookup (holder_eq c.args.holder) c.self.inside.newest.entries) c.args.kind).before) was in
-    table_replaced _ _ c.self.inside.newest.entries c.self.inside.newest.entries c.self.inside.index c.self.inside.index _ c.self.invariant
-    c.args.holder c.args.parts.now _ c.in-Ok-Some.ensures.updates.0 _ was leads
+    table_replaced _ _ _ _ c.self.inside.index c.self.inside.index _ c.self.invariant c.args.holder
+    c.args.parts.now _ c.in-Ok-Some.ensures.updates.0 _ was leads (λ g. refl)
+    c.self.invariant.indexed.numbered (λ q. refl)
 
 pub invariant_of-self-in-Ok-None : goal.invariant_of-self-in-Ok-None
 invariant_of-self-in-Ok-None c =

@@ -9,13 +9,15 @@ use Rattle.row_locks.proofs.lock_table.LockTable.is_touched_at.Goals as goal
 
 pub returns-in-Some : goal.returns-in-Some
 returns-in-Some c =
+    let same = get-locks_in c.self.inside.locks.entries c.args.holder c.args.parts.now in
     c.touches.ensures
     ∙ ap (λ o. passes (kinds_touch c.args.kind) (kind_in o)) c.in-Some.ensures.value
-    ∙ ap (passes (kinds_touch c.args.kind)) (sym (get-locks_in c.self.inside.locks.entries c.args.holder c.args.parts.now))
-    ∙ ap (λ (s : LockState). passes (kinds_touch c.args.kind) (get (keys_at s.locks c.args.holder) c.args.parts.now)) c.self.view_is
+    ∙ ap (passes (kinds_touch c.args.kind)) (sym same ∙ ap (λ (s : LockState).
+    get (keys_at s.locks c.args.holder) c.args.parts.now) c.self.view_is)
 
 pub returns-in-None : goal.returns-in-None
 returns-in-None c =
+    let same = get-locks_in c.self.inside.locks.entries c.args.holder c.args.parts.now in
     ap (λ o. passes (kinds_touch c.args.kind) (kind_in o)) c.in-None.ensures.value
-    ∙ ap (passes (kinds_touch c.args.kind)) (sym (get-locks_in c.self.inside.locks.entries c.args.holder c.args.parts.now))
-    ∙ ap (λ (s : LockState). passes (kinds_touch c.args.kind) (get (keys_at s.locks c.args.holder) c.args.parts.now)) c.self.view_is
+    ∙ ap (passes (kinds_touch c.args.kind)) (sym same ∙ ap (λ (s : LockState).
+    get (keys_at s.locks c.args.holder) c.args.parts.now) c.self.view_is)
