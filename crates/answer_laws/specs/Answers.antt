@@ -5,6 +5,7 @@ use Rattle.std.specs.Ordering.{nat_cmp}
 use Rattle.finite_map.specs.FiniteMap.{FiniteMap, empty, get, insert}
 use Rattle.wsrep_base.specs.declared.ids.TrxId.{TrxId}
 use Rattle.wsrep_base.specs.declared.verdict.Verdict.TheVariants as verdict
+use Rattle.wsrep_base.specs.declared.limits.TheConstants.{NUMBERS_END}
 use Rattle.key_sets.specs.Keys.{Keys, touches}
 use Rattle.row_model.specs.declared.ops.Op.{Op}
 use Rattle.row_model.specs.declared.calls.Reply.{Reply}
@@ -158,8 +159,8 @@ abbrev pub AnswersAreRight : Type 0
 AnswersAreRight =
     (nodes gcache member : ℕ) (id : List ℕ) (happens : List Happens)
     → 1 ≤ member → member ≤ nodes → member < 2 ^ 32
-    → AllFit (start_course nodes gcache id member) happens → length happens < 2 ^ 63
-    → length (course (start_course nodes gcache id member) happens).order ≤ 2 ^ 63
+    → AllFit (start_course nodes gcache id member) happens → length happens < NUMBERS_END
+    → length (course (start_course nodes gcache id member) happens).order ≤ NUMBERS_END
     → AreRight (course (start_course nodes gcache id member) happens).order
     (told (start_course nodes gcache id member) empty happens)
 
@@ -188,7 +189,7 @@ told_run c i askers (step ∷ steps) =
 abbrev pub RunsAnswerRight : Type 0
 RunsAnswerRight =
     (nodes gcache : ℕ) (id : List ℕ) (steps : List Step)
-    → nodes + joins steps < 2 ^ 32 → length steps < 2 ^ 63
+    → nodes + joins steps < 2 ^ 32 → length steps < NUMBERS_END
     → AllByRecursion (λ (step : Step). ActFits step.act) steps → (i : ℕ) → i < nodes
     → AreRight (run steps (start_cluster nodes gcache id)).1.order
     (told_run (start_cluster nodes gcache id) i empty steps)

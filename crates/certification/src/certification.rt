@@ -3,7 +3,7 @@ ghost use Rattle.std.specs.Option.{option_copied};
 ghost use Rattle.order_event.specs.declared.event.Event.{Event as Ordered};
 ghost use Rattle.finite_map.specs.FiniteMap.{len};
 ghost use Rattle.cert_meaning.specs.State.{RiseWithin};
-ghost use Rattle.cert_meaning.specs.Fold.{set_in, state_at};
+ghost use Rattle.cert_meaning.specs.Fold.{state_at};
 ghost use Rattle.cert_meaning.specs.Parts.{members_of, parts_of, state_of, trim};
 ghost use Rattle.cert_meaning.specs.declared.items.CommitItem.{CommitItem as Commit};
 ghost use Rattle.view_change.specs.Membership.{IsSettled};
@@ -12,6 +12,7 @@ ghost use Rattle.node_meaning.specs.Node.{passed_at};
 ghost use Rattle.node_meaning.specs.Status.{index_count};
 ghost use Rattle.node_meaning.specs.Units.{judged_at};
 ghost use Rattle.node_parts.specs.Passed.{AllBefore};
+ghost use Rattle.certification.specs.Indexed.{begin_in};
 ghost use Rattle.certification.specs.Certifies.{Certifies, CanCertify, IsNext, commit_with, holder_of, changes_with, in_the_way, purged, with_passed};
 
 use crate::indexed::Indexed;
@@ -23,15 +24,15 @@ use row_model::OpList;
 use std::alloc::Global;
 use std::collections::VecDeque;
 use std::marker::Model;
-use write_set::WriteSet;
 use wsrep_base::{Judged, NoMemory, TrxId};
 
 /// What certifying an event tells.
-#[derive(Drop)]
+#[derive(Clone, Copy)]
 pub struct Certified {
     pub judged: Judged,
-    /// The write set that the event's bytes spell. None where they spell none, and of other events.
-    pub set: Option<WriteSet>,
+    /// The begin number of the write set that the event's bytes spell. None where they spell none,
+    /// and of other events.
+    pub begin: Option<u64>,
 }
 
 /// The certification part of a node. What it answers is told over the order that it certifies, and
@@ -109,7 +110,7 @@ impl Certification {
             → Certifies order committed certified self.old
             → committed ≤ certified → slice_get order certified ≡ Some event.now
             → IsNext order committed certified event.now told.judged self.new) }
-        ensures set { IfOk result (λ told. told.set ≡ set_in event.now) }
+        ensures begin { IfOk result (λ told. told.begin ≡ begin_in event.now) }
         ensures err { OnErr result (self.new ≡ self.old) }
     {
         self.passed.reserve_one()?;
@@ -125,7 +126,7 @@ impl Certification {
         self.purge();
         Ok(Certified {
             judged: told.judged,
-            set: told.set,
+            begin: told.begin,
         })
     }
 

@@ -1,13 +1,14 @@
 -- What a step of one node does to the cluster, from what it does to the node's seat.
-use Rattle.std.proofs.Common.{◌≡◌, ℕ, zero, suc, ◌+◌, ◌-◌, Bool, true, false, cond, List, [], ◌∷◌, ◌++◌, length, None, Some, refl, sym, ap, subst, ◌∙◌, arith, append-nil, length-append, set, get_or, min, ◌≤◌, ◌<◌, Result, Ok, Err}
-use Rattle.std.specs.Prelude.{slice_get, map, IfOk, IfErr, IsErrAnd, OnErr, IsSome}
+use Rattle.std.proofs.Common.{◌≡◌, ℕ, zero, suc, ◌+◌, ◌-◌, true, false, cond, List, [], ◌∷◌, ◌++◌, length, None, Some, refl, sym, ap, subst, ◌∙◌, arith, append-nil, length-append, set, get_or, min, ◌≤◌, ◌<◌, Result, Ok, Err}
+use Rattle.std.specs.Prelude.{slice_get, map, IfOk, IfErr, IsErrAnd, IsSome}
 use Rattle.std.specs.List.{AllByRecursion}
+use Rattle.std.proofs.lemmas.Bool.{cond_both}
+use Rattle.std.proofs.lemmas.List.{length-map, map-append}
 use Rattle.std.proofs.lemmas.Option.{same_Some}
 use Rattle.finite_map.specs.FiniteMap.{get}
 use Rattle.row_model.specs.declared.calls.Call.{Call}
 use Rattle.order_event.specs.declared.event.Event.{Event}
 use Rattle.order_event.specs.declared.event.Message.{Message}
-use Rattle.order_event.specs.declared.event.Message.TheVariants as message
 use Rattle.order_event.specs.declared.step.Act.{Act}
 use Rattle.order_event.specs.declared.step.Act.TheVariants as act
 use Rattle.order_event.specs.declared.step.Answer.{Answer}
@@ -26,7 +27,7 @@ use Rattle.node_core.specs.Answers.{is_started}
 use Rattle.node_core.specs.Memory.{CallWants, TakeWants, CertifyWants, StartWants, ReportWants}
 use Rattle.node_core.specs.Stands.{DoneOver, plain_of, quietly}
 use Rattle.cluster_core.specs.declared.seat.Seat.{Seat as SeatOf}
-use Rattle.cluster_core.specs.Seated.{Seat, IsSeated, SeatDone, SeatDoes, SeatTakes, SeatUnchanged, seen, work_of}
+use Rattle.cluster_core.specs.Seated.{Seat, IsSeated, SeatDone, SeatTakes, SeatUnchanged, seen, work_of}
 use Rattle.cluster_core.specs.declared.fault.StepFault.{StepFault}
 use Rattle.cluster_core.specs.declared.fault.StepFault.TheVariants as fault
 use Rattle.cluster_core.specs.Faults.{step_fault}
@@ -49,15 +50,6 @@ there_after (z ∷ zs) zero x y there = refl
 there_after (z ∷ zs) (suc i) x y there = there_after zs i x y there
 
 -- ---- faults
-some_waits : (queue : List Message) (m : Message) → oldest queue ≡ Some m → 0 < length queue
-some_waits [] m some = absurd cc
-some_waits (q ∷ qs) m some = omega arith
-
--- ordering a message that waits may come to either fault
-may_order : (order : List Event) (n : ModelNode) (e : StepFault) → 0 < length n.outbox → MayFail order n act.Order e
-may_order order n fault.Group waits = waits
-may_order order n fault.NoMemory waits = waits
-
 -- a transfer alone needs another node
 pub may_in : (c : ModelCluster) (n : ModelNode) (a : Act) (e : StepFault) → MayFail c.order n a e → MayFailIn c n a e
 may_in c n (act.Transfer donor) fault.Group may = absurd may
@@ -82,11 +74,6 @@ module _ (a : Act) (order : List Event) (old : Seat) (kept : IsKept order old) w
         ∙ sym (by_itself (cluster_of order nodes) i (plain_of old.node));
     goes = goes_same order order new refl (record { order_kept = kept.order_kept; seated = d.seated });
   }
-
-  pub acted_does : (new : Seat) (answer : Answer) → SeatDoes (λ order n. node_step order n a) old new answer
-      → ((c : ModelCluster) (i : ℕ) (n : ModelNode) → step_of c i n a ≡ with_node c i (node_step c.order n a))
-      → Acted a order order old new answer
-  acted_does new answer does by_itself = acted_alone new answer (does order kept.seated) by_itself
 
   pub failed_alone : (new : Seat) → SeatUnchanged old new → Wants order (plain_of old.node) a
       → ((a ≡ a) × (order ≡ order) × (plain_of new.node ≡ plain_of old.node) → Left a order order (plain_of old.node) (plain_of new.node) a)
@@ -133,8 +120,7 @@ order_none order seat none kept = record {
 }
 
 sent_units : (n : ModelNode) (queue : List Message) → (first_sent n queue).units ≡ n.units
-sent_units n [] = refl
-sent_units n (m ∷ ms) = refl
+sent_units n queue = grind arith
 
 some_first : (before now : List Event) (nodes : List ModelNode) (i number : ℕ) (n after : ModelNode) (m : Message) (queue : List Message)
     → oldest queue ≡ Some m → now ≡ before ++ event_of n.at.member m ∷ [] → number ≡ length now → after ≡ sent_out n
@@ -147,29 +133,46 @@ some_first before now nodes i number n after m (x ∷ xs) first is counts sent =
     ∙ ap (λ o. (answer.Ordered (length before + 1), cluster_of o (set_at nodes i after))) order
     ∙ ap (λ k. (answer.Ordered (length before + 1), cluster_of (before ++ event_of n.at.member x ∷ []) (set_at nodes i k))) sent
 
-pub order_done : (before now : List Event) (old : Seat) (node : NodeParts) (m : Message) (number : ℕ) → oldest old.node.queue.outbox ≡ Some m
-    → EventFits (event_of old.node.at.member m)
-    → now ≡ before ++ event_of old.node.at.member m ∷ [] → number ≡ length now → DoneOver before (quietly sent_out before) old.node node tt
-    → IsKept before old → Acted act.Order before now old (record old { node = node }) (answer.Ordered number)
+-- a step that is told nothing, and leaves the units
+pub seated_still : (order : List Event) (f : ModelNode → ModelNode) (old : Seat) (node : NodeParts)
+    → DoneOver order (quietly f order) old.node node tt
+    → (f (plain_of old.node)).units ≡ old.node.units.units → IsSeated order old
+    → (plain_of node ≡ f (plain_of old.node)) × IsSeated order (record old { node = node })
+seated_still order f old node d same seated =
+    let is = ap (λ (r : Unit {0} × ModelNode). r.1) d.same in (
+      is,
+      record {
+        stands = d.stands;
+        work = λ k. seated.work k ∙ ap (λ us. work_of order k (is_started (get us k)))
+            (sym (ap (λ (n : ModelNode). n.units) is ∙ same));
+      },
+    )
+
+-- the order grows by an event
+pub goes_on : (before now : List Event) (e : Event) (new : Seat) → now ≡ before ++ e ∷ []
+    → OrderIsKept (before ++ e ∷ []) → IsSeated before new → Goes before now new
+goes_on before now e new is kept seated = record {
+  more = e ∷ [];
+  grown = is;
+  kept = record {
+    order_kept = subst OrderIsKept (sym is) kept;
+    seated = subst (λ order. IsSeated order new) (sym is) (seated_grow before (e ∷ []) new seated);
+  };
+}
+
+pub order_done : (before now : List Event) (old : Seat) (node : NodeParts) (m : Message)
+    (number : ℕ) → oldest old.node.queue.outbox ≡ Some m → EventFits (event_of old.node.at.member m)
+    → now ≡ before ++ event_of old.node.at.member m ∷ [] → number ≡ length now
+    → DoneOver before (quietly sent_out before) old.node node tt → IsKept before old
+    → Acted act.Order before now old (record old { node = node }) (answer.Ordered number)
 order_done before now old node m number first fits is counts d kept =
-    let new : Seat = record old { node = node } in
-    let sent : plain_of node ≡ sent_out (plain_of old.node) = ap (λ (r : Unit {0} × ModelNode). r.1) d.same in
-    let seated : IsSeated before new = record {
-      stands = d.stands;
-      work = λ k. kept.seated.work k
-          ∙ ap (λ us. work_of before k (is_started (get us k))) (sym (sent_units (plain_of old.node) old.node.queue.outbox))
-          ∙ ap (λ (n : ModelNode). work_of before k (is_started (get n.units k))) (sym sent);
-    } in
+    let sent = seated_still before sent_out old node d
+    (sent_units (plain_of old.node) old.node.queue.outbox) kept.seated in
     record {
-      same = λ nodes i there. some_first before now nodes i number (plain_of old.node) (plain_of node) m old.node.queue.outbox first is counts sent;
-      goes = record {
-        more = event_of old.node.at.member m ∷ [];
-        grown = is;
-        kept = record {
-          order_kept = subst OrderIsKept (sym is) (sent_kept before old.node.at.member m fits kept.order_kept);
-          seated = subst (λ order. IsSeated order new) (sym is) (seated_grow before (event_of old.node.at.member m ∷ []) new seated);
-        };
-      };
+      same = λ nodes i there. some_first before now nodes i number (plain_of old.node)
+          (plain_of node) m old.node.queue.outbox first is counts sent.0;
+      goes = goes_on before now (event_of old.node.at.member m) (record old { node = node }) is
+          (sent_kept before old.node.at.member m fits kept.order_kept) sent.1;
     }
 
 -- ---- taking
@@ -187,15 +190,12 @@ take_acted before now old new a e is there takes kept =
       goes = goes_same before now new is (record { order_kept = kept.order_kept; seated = d.seated });
     }
 
-no_choice : {A : Type 0} (b : Bool) (x : A) → x ≡ cond b x x
-no_choice true x = refl
-no_choice false x = refl
-
 take_idle : (order : List Event) (n : ModelNode) → slice_get order n.at.taken ≡ None → (answer.Nothing, n) ≡ take_step order n
 unfolding take_step
 take_idle order n none =
-    no_choice (is_connected n.at.phase) (answer.Nothing, n)
-    ∙ ap (λ o. cond (is_connected n.at.phase) (take_event n o) (answer.Nothing, n)) (sym none)
+    cond_both (is_connected n.at.phase) (take_event n (slice_get order n.at.taken))
+    (answer.Nothing, n) (λ r. (answer.Nothing, n) ≡ r) (λ _. ap (take_event n) (sym none))
+    (λ _. refl)
 
 take_away : (order : List Event) (n : ModelNode) → is_connected n.at.phase ≡ false → (answer.Nothing, n) ≡ take_step order n
 unfolding take_step
@@ -249,20 +249,7 @@ event_failed before now old given is kept connected there =
     by_fault group.Failed h = connected
     by_fault group.NoMemory h = take_wants before (plain_of old.node) connected h
 
-pub order_failed : (before now : List Event) (old : Seat) (e : StepFault) (m : Message) → now ≡ before → IsKept before old
-    → oldest old.node.queue.outbox ≡ Some m → Failed act.Order before now old old e
-order_failed before now old e m is kept some = record {
-  next = act.Order;
-  left = (refl, is, refl);
-  may = may_order now (plain_of old.node) e (some_waits old.node.queue.outbox m some);
-  goes = goes_same before now old is kept;
-}
-
 -- ---- the seats at their start
-map_append : {A B : Type 0} (f : A → B) (xs ys : List A) → map f (xs ++ ys) ≡ map f xs ++ map f ys
-map_append f [] ys = refl
-map_append f (x ∷ xs) ys = ap (λ zs. f x ∷ zs) (map_append f xs ys)
-
 abbrev pub AreSeated : {W : Type 0} → List Event → List (SeatOf W) → Type 0
 AreSeated order seats = AllByRecursion (λ s. IsSeated order (seen s)) seats
 
@@ -278,10 +265,10 @@ next_seat {W} gcache id seats now seat k is start seated so_far =
     let e : k + 1 ≡ suc k = omega arith in
     subst (λ j. SeatsTo gcache id j now) (sym e)
     (subst (SeatsTo gcache id (suc k)) (sym is) (
-      map_append (λ (s : SeatOf W). plain_of s.node.parts) seats (seat ∷ [])
+      map-append (λ (s : SeatOf W). plain_of s.node.parts) seats (seat ∷ [])
           ∙ ap (λ ns. ns ++ plain_of seat.node.parts ∷ []) so_far.0
           ∙ ap (λ n. map (start_node gcache id) (up_to k) ++ n ∷ []) (start ∙ ap (start_node gcache id) e)
-          ∙ sym (map_append (start_node gcache id) (up_to k) (suc k ∷ [])),
+          ∙ sym (map-append (start_node gcache id) (up_to k) (suc k ∷ [])),
       λ order. all_append (λ s. IsSeated order (seen s)) seats (seat ∷ []) (so_far.1 order) (seated order, tt),
     ))
 
@@ -367,25 +354,9 @@ module _ {W : Type 0} (a : Act) (before now : List Event) (seats : List (SeatOf 
         (failed.next, stopped, subst (λ o. MayFailAt c o failed.next e) (sym node_is) (may_in c (plain_of new.node.parts) failed.next e failed.may))
 
 -- ---- answers
-pub if_ok : {A E : Type 0} (P Q : A → Type 0) (r : Result A E) → ((x : A) → P x → Q x) → IfOk r P → IfOk r Q
-if_ok P Q (Ok x) f p = f x p
-if_ok P Q (Err e) f p = tt
-
-pub if_err : {A E : Type 0} (P Q : E → Type 0) (r : Result A E) → ((e : E) → P e → Q e) → IfErr r P → IfErr r Q
-if_err P Q (Ok x) f p = tt
-if_err P Q (Err e) f p = f e p
-
-pub on_err : {A E : Type 0} (P : E → Type 0) (Q : Type 0) (r : Result A E) → ((e : E) → P e → Q) → IfErr r P → OnErr r Q
-on_err P Q (Ok x) f p = tt
-on_err P Q (Err e) f p = f e p
-
 pub err_by : {A E : Type 0} (P Q : E → Type 0) (r : Result A E) → IsErrAnd r P → ((e : E) → P e → Q e) → IfErr r Q
 err_by P Q (Ok x) h f = tt
 err_by P Q (Err e) h f = f e h
-
-pub err_any : {A E : Type 0} (P : E → Type 0) (r : Result A E) → ((e : E) → P e) → IfErr r P
-err_any P (Ok x) f = tt
-err_any P (Err e) f = f e
 
 pub goes_by : {A : Type 0} (a : Act) (before now : List Event) (old new : Seat) (P : A → Type 0) (r : Result A StepFault)
     → ((x : A) → P x → Goes before now new) → IfOk r P → IfErr r (Failed a before now old new) → Goes before now new
@@ -416,12 +387,10 @@ module _ {A : Type 0} (c d m : ModelCluster) (at : ℕ) (step : Step) (r : Resul
       subst (λ k. IfErr r (FailedBy step.act k d m)) numbered (subst (λ k. IfErr r (FailedBy step.act (at + 1) k m)) same left)
 
 pub first_counts : (queue : List Message) → min (length queue) 1 ≡ orders_of queue
-first_counts [] = omega arith
-first_counts (m ∷ ms) = omega arith
+first_counts queue = grind arith
 
-length-nodes : {W : Type 0} (seats : List (SeatOf W)) → length (nodes_of seats) ≡ length seats
-length-nodes [] = refl
-length-nodes (s ∷ ss) = ap suc (length-nodes ss)
+pub length-nodes : {W : Type 0} (seats : List (SeatOf W)) → length (nodes_of seats) ≡ length seats
+length-nodes {W} seats = length-map seats (λ (s : SeatOf W). plain_of s.node.parts)
 
 -- how many events the step of a seat is going to order
 pub will_is : {W : Type 0} (c : ModelCluster) (seats : List (SeatOf W)) (at : ℕ) (step : Step) (seat : SeatOf W) (k : ℕ) → nodes_of seats ≡ c.nodes
@@ -447,6 +416,3 @@ pub cluster_start : {W : Type 0} (order : List Event) (nodes gcache : ℕ) (id :
     → nodes_of seats ≡ map (start_node gcache id) (up_to nodes) → cluster_of order (nodes_of seats) ≡ start_cluster nodes gcache id
 unfolding start_cluster
 cluster_start order nodes gcache id seats is starts = ap (λ o. cluster_of o (nodes_of seats)) is ∙ ap (cluster_of (start_order nodes)) starts
-
-pub same_count : (a b : ℕ) → a ≤ b → b ≤ a → a ≡ b
-same_count a b below above = omega (arith, below, above)

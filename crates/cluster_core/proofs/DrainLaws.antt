@@ -1,7 +1,7 @@
 -- A drain, from its parts.
 use Rattle.std.proofs.Common.{◌≡◌, ℕ, zero, suc, ◌+◌, ◌-◌, false, List, [], ◌∷◌, ◌++◌, length, refl, sym, ap, subst, ◌∙◌, arith, append-nil, append_assoc, length-append, ◌≤◌, ◌<◌}
 use Rattle.std.specs.Prelude.{map, replicate}
-use Rattle.std.proofs.lemmas.List.{replicate_more}
+use Rattle.std.proofs.lemmas.List.{length-map, replicate-append-replicate, replicate_more}
 use Rattle.order_event.specs.declared.event.Event.{Event}
 use Rattle.order_event.specs.declared.event.Message.{Message}
 use Rattle.order_event.specs.declared.step.Act.{Act}
@@ -22,7 +22,7 @@ use Rattle.cluster_core.specs.Steps.{Wants, MayFail}
 use Rattle.cluster_core.specs.Acts.{IsKept, Goes, Acted, Failed, Runs, Stops, Halts, cluster_of}
 use Rattle.cluster_core.specs.Drain.{Sent, SentFew, Part, PartDone, Takes, TakesFew, Certifies, CertifiesFew, Commits, CommitsFew, take_next, certify_next}
 use Rattle.cluster_core.proofs.ActLaws.{goes_same, runs_none, take_not_connected}
-use Rattle.cluster_core.proofs.RunLaws.{runs_then, runs_acted, stops_none, stops_first, stops_later, replicate_split, commit_split}
+use Rattle.cluster_core.proofs.RunLaws.{runs_then, runs_acted, stops_none, stops_first, stops_later, commit_split}
 
 -- ---- a step that is done again and again
 pub times_more : (k : ℕ) (f : ModelNode → ModelNode) (n : ModelNode) → times (k + 1) f n ≡ f (times k f n)
@@ -33,7 +33,7 @@ times_more (suc k) f n = let e : suc k + 1 ≡ suc (k + 1) = omega arith in ap (
 pub among_others : (count k : ℕ) (a : Act) → k < count → replicate count a ≡ replicate k a ++ a ∷ replicate (count - k - 1) a
 among_others count k a below =
     ap (λ j. replicate j a) (let same : count ≡ k + suc (count - k - 1) = omega (arith, below) in same)
-    ∙ replicate_split k (suc (count - k - 1)) a
+    ∙ sym (replicate-append-replicate k (suc (count - k - 1)) a)
 
 -- a step that was not done, by itself
 pub step_halts : (a : Act) (before now : List Event) (old new : Seat) (e : StepFault) (next : Act)
@@ -68,11 +68,11 @@ module _ (one other : List Act) (order : List Event) (to : ModelNode) (old middl
     seated = some.seated;
   }
 
-pub halts_first : (acts more : List Act) (before now : List Event) (old new : Seat) (e : StepFault) → Halts acts before now old new e
-    → Halts (acts ++ more) before now old new e
+pub halts_first : (acts more : List Act) (before now : List Event) (old new : Seat) (e : StepFault)
+    → Halts acts before now old new e → Halts (acts ++ more) before now old new e
 halts_first acts more before now old new e halts = record {
   next = halts.next;
-  stops = stops_first acts more before now (plain_of old.node) (plain_of new.node) halts.next halts.stops;
+  stops = stops_first acts more before now _ _ halts.next halts.stops;
   may = halts.may;
 }
 
@@ -227,10 +227,6 @@ take_fails order now old new e failed = (
 )
 
 -- ---- ordering
-length-map : {A B : Type 0} (f : A → B) (xs : List A) → length (map f xs) ≡ length xs
-length-map f [] = refl
-length-map f (x ∷ xs) = ap suc (length-map f xs)
-
 pub sent_once : (before now : List Event) (n m : ModelNode) (x : Answer) (queue : List Message) → n.outbox ≡ queue
     → (x, cluster_of now (m ∷ [])) ≡ order_first (cluster_of before (n ∷ [])) 0 n queue
     → (all_sent now m ≡ all_sent before n) × (length m.outbox ≡ length queue - 1)
@@ -293,8 +289,7 @@ sent_fails k count before between now old middle new e below sent failed =
     }
 
 at_most_all : (queue : List Message) → orders_of queue ≤ length queue
-at_most_all [] = omega arith
-at_most_all (m ∷ ms) = omega arith
+at_most_all queue = grind arith
 
 pub sent_short : (k : ℕ) (before between : List Event) (old middle : Seat) → Sent k before between old middle
     → length before + length old.node.queue.outbox ≤ 500_000 → length between + orders_of middle.node.queue.outbox ≤ 500_000
@@ -302,8 +297,8 @@ sent_short k before between old middle sent short =
     let whole = ap (λ (p : List Event × ModelNode). length p.0) sent.all in
     let here = length-append between (map (event_of middle.node.at.member) middle.node.queue.outbox) in
     let there = length-append before (map (event_of old.node.at.member) old.node.queue.outbox) in
-    let long = length-map (event_of middle.node.at.member) middle.node.queue.outbox in
-    let was = length-map (event_of old.node.at.member) old.node.queue.outbox in
+    let long = length-map middle.node.queue.outbox (event_of middle.node.at.member) in
+    let was = length-map old.node.queue.outbox (event_of old.node.at.member) in
     omega (arith, short, whole, here, there, long, was, at_most_all middle.node.queue.outbox)
 
 -- ---- the whole

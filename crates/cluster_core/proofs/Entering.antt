@@ -1,7 +1,6 @@
 -- What the laws of a cluster say of a node that joins, and of one that waits for what it misses.
-use Rattle.std.proofs.Common.{◌≡◌, ℕ, ◌+◌, Bool, true, false, List, [], ◌∷◌, Some, None, refl, sym, ap, ◌∙◌, arith, drop}
+use Rattle.std.proofs.Common.{◌≡◌, ℕ, true, false, Some, None, refl, sym, ◌∙◌, arith, drop}
 use Rattle.std.specs.Prelude.{slice_get}
-use Rattle.std.specs.List.{AllByRecursion}
 use Rattle.order_event.specs.declared.event.Event.{Event}
 use Rattle.node_meaning.specs.declared.progress.Phase.{Phase}
 use Rattle.node_meaning.specs.declared.progress.Phase.TheVariants as phase

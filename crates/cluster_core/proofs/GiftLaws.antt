@@ -1,8 +1,7 @@
 -- A seat whose node takes what another gave.
-use Rattle.std.proofs.Common.{◌≡◌, ℕ, ◌+◌, List, length, Ok, Err, Result, Some, refl, sym, ap, subst, ◌∙◌, arith}
+use Rattle.std.proofs.Common.{◌≡◌, ℕ, List, Ok, Err, Result, refl, sym, ap, ◌∙◌}
 use Rattle.finite_map.specs.FiniteMap.{get}
 use Rattle.order_event.specs.declared.event.Event.{Event}
-use Rattle.cert_meaning.specs.State.{FoldState}
 use Rattle.cert_meaning.specs.Fold.{state_at}
 use Rattle.cert_meaning.specs.Parts.{trim}
 use Rattle.state_snapshot.specs.Reading.{installed}
@@ -17,10 +16,10 @@ use Rattle.node_core.specs.declared.gift.Gift.TheVariants as gift
 use Rattle.node_core.specs.declared.gift.ReceiveFault.TheVariants.{Snap}
 use Rattle.node_core.specs.declared.node.NodeParts.{NodeParts}
 use Rattle.node_core.specs.Answers.{is_started}
-use Rattle.node_core.specs.Joining.{GiftFits, Received, IsFaultOf, IsStateAt, TookEvents, TookSnapshot}
+use Rattle.node_core.specs.Joining.{GiftFits, Received, IsFaultOf, IsStateAt}
 use Rattle.node_core.specs.Stands.{DoneOver, plain_of, quietly}
 use Rattle.cluster_core.specs.Seated.{Seat, IsSeated, work_of}
-use Rattle.cluster_core.specs.Transfers.{Brings, BringsEvents, BringsState, Receives, SeatTook, TakesGift}
+use Rattle.cluster_core.specs.Transfers.{Receives, SeatTook, TakesGift}
 
 -- the bytes of an order's state are installed
 installs : (order : List Event) (number : ℕ) (id bytes : List ℕ) → IsStateAt order number id bytes

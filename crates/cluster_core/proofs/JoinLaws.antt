@@ -1,7 +1,6 @@
 -- A node joins: what that does to the cluster, from what it does to the node's seat.
-use Rattle.std.proofs.Common.{◌≡◌, ℕ, ◌+◌, ◌≤◌, Bool, true, false, cond, List, [], ◌∷◌, ◌++◌, length, Some, refl, sym, ap, subst, ◌∙◌, arith, length-append, not, eq-eqb}
-use Rattle.std.specs.Prelude.{◌==◌, slice_get}
-use Rattle.finite_map.specs.FiniteMap.{get}
+use Rattle.std.proofs.Common.{◌≡◌, ℕ, ◌+◌, ◌≤◌, Bool, true, false, cond, List, [], ◌∷◌, ◌++◌, length, refl, sym, ap, ◌∙◌, length-append, not, eq-eqb}
+use Rattle.std.specs.Prelude.{◌==◌}
 use Rattle.order_event.specs.declared.event.Event.{Event}
 use Rattle.order_event.specs.declared.step.Act.TheVariants as act
 use Rattle.order_event.specs.declared.step.Answer.{Answer}
@@ -11,18 +10,12 @@ use Rattle.node_meaning.specs.Node.{ModelNode, is_left}
 use Rattle.node_meaning.specs.Joining.{joined_node}
 use Rattle.node_meaning.specs.Cluster.{ModelCluster, set_at, join_now}
 use Rattle.node_core.specs.declared.node.NodeParts.{NodeParts}
-use Rattle.node_core.specs.Answers.{is_started}
 use Rattle.node_core.specs.Stands.{DoneOver, plain_of, quietly}
 use Rattle.node_laws.proofs.SetLists.{unequal}
-use Rattle.cluster_core.specs.declared.fault.StepFault.{StepFault}
-use Rattle.cluster_core.specs.declared.fault.StepFault.TheVariants as fault
-use Rattle.cluster_core.specs.Orders.{OrderIsKept}
-use Rattle.cluster_core.specs.Seated.{Seat, IsSeated, work_of}
-use Rattle.cluster_core.specs.Steps.{Joins, MayFail}
-use Rattle.cluster_core.specs.Acts.{IsKept, Acted, Failed, cluster_of}
+use Rattle.cluster_core.specs.Seated.{Seat, IsSeated}
+use Rattle.cluster_core.specs.Acts.{IsKept, Acted, cluster_of}
 use Rattle.cluster_core.proofs.OrderLaws.{joined_kept}
-use Rattle.cluster_core.proofs.SeatLaws.{seated_grow}
-use Rattle.cluster_core.proofs.ActLaws.{goes_same, set_at_same}
+use Rattle.cluster_core.proofs.ActLaws.{goes_on, seated_still, goes_same, set_at_same}
 
 same_number : (k : ℕ) → k == k ≡ true
 same_number k = eq-eqb k k refl
@@ -67,48 +60,24 @@ module _ (fresh : Bool) (before : List Event) (old : Seat) (kept : IsKept before
       (all : old.node.at.taken ≡ old.node.at.committed) (short : length before ≤ 500_000)
       (is : now ≡ before ++ view_with before (new_member before) ∷ []) (numbered : view ≡ length now) (named : member ≡ new_member before)
       (d : DoneOver before (quietly (joined_node fresh member view) before) old.node node tt) where
-    joins : plain_of node ≡ joined_node fresh member view (plain_of old.node)
-    joins = ap (λ (r : Unit {0} × ModelNode). r.1) d.same
-
-    seated : IsSeated before (record old { node = node })
-    seated = record {
-      stands = d.stands;
-      work = λ k. kept.seated.work k ∙ ap (λ (m : ModelNode). work_of before k (is_started (get m.units k))) (sym joins);
-    }
+    joined : (plain_of node ≡ joined_node fresh member view (plain_of old.node))
+        × IsSeated before (record old { node = node })
+    joined = seated_still before (joined_node fresh member view) old node d refl kept.seated
 
     pub joined_now : Acted (act.Join fresh) before now old (record old { node = node }) (answer.Joining view member)
     joined_now =
         let event = view_with before (new_member before) in
-        let new : Seat = record old { node = node } in
         let long : view ≡ length before + 1 = numbered ∙ ap length is ∙ length-append before (event ∷ []) in
         let every : old.node.at.taken == old.node.at.committed ≡ true =
         ap (λ k. old.node.at.taken == k) (sym all) ∙ same_number old.node.at.taken in
         record {
           same = λ nodes i there.
-              ap (λ m. (answer.Joining view member, cluster_of now (set_at nodes i m))) joins
+              ap (λ m. (answer.Joining view member, cluster_of now (set_at nodes i m))) joined.0
               ∙ ap (λ k. (answer.Joining k member, cluster_of now (set_at nodes i (joined_node fresh member k (plain_of old.node))))) long
               ∙ ap (λ k. (answer.Joining (length before + 1) k, cluster_of now (set_at nodes i (joined_node fresh k (length before + 1) (plain_of old.node))))) named
               ∙ ap (λ o. (answer.Joining (length before + 1) (new_member before), cluster_of o (set_at nodes i (joined_node fresh (new_member before) (length before + 1) (plain_of old.node))))) is
               ∙ ap (left_by nodes i) (sym every)
               ∙ ap (λ b. joined_by nodes i b all_done) (sym left);
-          goes = record {
-            more = event ∷ [];
-            grown = is;
-            kept = record {
-              order_kept = subst OrderIsKept (sym is) (joined_kept before short kept.order_kept);
-              seated = subst (λ order. IsSeated order new) (sym is) (seated_grow before (event ∷ []) new seated);
-            };
-          };
+          goes = goes_on before now event (record old { node = node }) is
+              (joined_kept before short kept.order_kept) joined.1;
         }
-
-  may_join : (now : List Event) (e : StepFault) → Joins (plain_of old.node) → MayFail now (plain_of old.node) (act.Join fresh) e
-  may_join now fault.Group joins = joins
-  may_join now fault.NoMemory joins = joins
-
-  pub join_failed : (now : List Event) (e : StepFault) → now ≡ before → Joins (plain_of old.node) → Failed (act.Join fresh) before now old old e
-  join_failed now e is joins = record {
-    next = act.Join fresh;
-    left = (refl, is, refl);
-    may = may_join now e joins;
-    goes = goes_same before now old is kept;
-  }

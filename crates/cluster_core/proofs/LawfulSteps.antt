@@ -7,13 +7,12 @@ use Rattle.order_event.specs.declared.step.Act.{Act}
 use Rattle.order_event.specs.declared.step.Act.TheVariants as act
 use Rattle.order_event.specs.declared.step.Answer.{Answer}
 use Rattle.order_event.specs.declared.step.Step.{Step}
-use Rattle.group_order.specs.Order.{new_member}
 use Rattle.node_meaning.specs.Node.{ModelNode}
 use Rattle.node_meaning.specs.Steps.{commit_next, all_taken, all_certified}
 use Rattle.node_meaning.specs.Cluster.{ModelCluster, start_cluster, cluster_step}
 use Rattle.node_laws.specs.Fits.{ActFits}
 use Rattle.node_laws.specs.Given.{given}
-use Rattle.node_laws.specs.Drains.{after_acts, all_sent, commit_acts, certified_acts, taken_acts, sent_acts, drain_acts, drain_acts_of, StoppedAt}
+use Rattle.node_laws.specs.Drains.{after_acts, all_sent, commit_acts, certified_acts, taken_acts, sent_acts, drain_acts_of, StoppedAt}
 use Rattle.node_laws.proofs.GivenLaws.{stopped_stays}
 use Rattle.course_laws.specs.RunLaws.{MembersFit}
 use Rattle.course_laws.proofs.RunLaws.{run_laws_step, run_laws_given, run_laws_start}
@@ -21,6 +20,7 @@ use Rattle.cluster_core.specs.declared.fault.StepFault.{StepFault}
 use Rattle.cluster_core.specs.Steps.{FailedBy}
 use Rattle.cluster_core.specs.Orders.{OrderIsKept}
 use Rattle.cluster_core.specs.Lawful.{IsLawful}
+use Rattle.cluster_core.proofs.OrderLaws.{all_append}
 use Rattle.cluster_core.proofs.RunLaws.{after_more}
 
 -- ---- a step that was done
@@ -49,10 +49,6 @@ part_members c node a part fresh n is there left all = absurd (subst IsPart is p
 abbrev AreParts : List Act → Type 0
 AreParts acts = AllByRecursion IsPart acts
 
-parts_more : (one other : List Act) → AreParts one → AreParts other → AreParts (one ++ other)
-parts_more [] other here there = there
-parts_more (a ∷ one) other here there = (here.0, parts_more one other here.1 there)
-
 parts_front : (one other : List Act) → AreParts (one ++ other) → AreParts one
 parts_front [] other parts = tt
 parts_front (a ∷ one) other parts = (parts.0, parts_front one other parts.1)
@@ -68,18 +64,19 @@ commit_parts order (suc k) n = (tt, (tt, (tt, commit_parts order k (commit_next 
 taken_parts : (order : List Event) (n : ModelNode) → AreParts (taken_acts order n)
 taken_parts order n =
     let m = all_certified order n in
-    parts_more (replicate (n.at.taken - n.at.certified) act.Certify) (certified_acts order m)
+    all_append IsPart (replicate (n.at.taken - n.at.certified) act.Certify) (certified_acts order m)
     (parts_same (n.at.taken - n.at.certified) act.Certify tt) (commit_parts order (m.at.certified - m.at.committed) m)
 
 sent_parts : (order : List Event) (n : ModelNode) → AreParts (sent_acts (order, n))
 sent_parts order n =
-    parts_more (replicate (length order - n.at.taken) act.Take) (taken_acts order (all_taken order n))
+    all_append IsPart (replicate (length order - n.at.taken) act.Take)
+    (taken_acts order (all_taken order n))
     (parts_same (length order - n.at.taken) act.Take tt) (taken_parts order (all_taken order n))
 
 drain_parts : (order : List Event) (o : Option ModelNode) → AreParts (drain_acts_of order o)
 drain_parts order None = tt
 drain_parts order (Some n) =
-    parts_more (replicate (length n.outbox) act.Order) (sent_acts (all_sent order n))
+    all_append IsPart (replicate (length n.outbox) act.Order) (sent_acts (all_sent order n))
     (parts_same (length n.outbox) act.Order tt) (sent_parts (all_sent order n).0 (all_sent order n).1)
 
 -- behind some of them the laws hold, and behind more

@@ -1,6 +1,7 @@
 -- The order of a cluster as events come.
-use Rattle.std.proofs.Common.{◌≡◌, ℕ, zero, suc, ◌+◌, ◌<◌, ◌≤◌, ◌^◌, Bool, true, false, cond, List, [], ◌∷◌, ◌++◌, length, fold, refl, sym, ap, subst, ◌∙◌, arith, length-append, max}
-use Rattle.std.specs.Prelude.{slice_get, slice_index, not, ◌==◌, Some}
+use Rattle.std.proofs.lemmas.Bool.{cond_both}
+use Rattle.std.proofs.Common.{◌≡◌, ℕ, zero, suc, ◌+◌, ◌<◌, ◌≤◌, ◌^◌, Bool, List, [], ◌∷◌, ◌++◌, length, fold, ap, subst, arith, length-append}
+use Rattle.std.specs.Prelude.{slice_get, not, ◌==◌, Some}
 use Rattle.std.specs.List.{AllByRecursion, filter}
 use Rattle.std.proofs.lemmas.Grind.{fold-append}
 use Rattle.std.proofs.lemmas.Option.{same_Some}
@@ -9,8 +10,8 @@ use Rattle.order_event.specs.declared.event.Event.TheVariants as event
 use Rattle.order_event.specs.declared.event.Message.{Message}
 use Rattle.order_event.specs.declared.event.Message.TheVariants as message
 use Rattle.order_event.specs.Spelling.{HasFewMembers}
-use Rattle.group_order.specs.Order.{event_of, start_order, up_to, newer_view, last_view, all_but, view_without, view_with, new_member, last_member, later_member}
-use Rattle.group_order.proofs.Members.{last_behind, last_left, last_joined, last_within, greatest_to}
+use Rattle.group_order.specs.Order.{event_of, start_order, up_to, newer_view, last_view, all_but, view_without, view_with, new_member}
+use Rattle.group_order.proofs.Members.{last_behind, last_left, last_joined, greatest_to}
 use Rattle.state_snapshot.specs.Orders.{OrderFits}
 use Rattle.node_laws.proofs.ClusterLaws.{length-up_to}
 use Rattle.cluster_core.specs.Orders.{EventFits, MessageFits, OrderIsKept}
@@ -90,20 +91,14 @@ sent_kept order member (message.Report number) fits kept =
 -- ---- a view with one member less
 not_more : (test : ℕ → Bool) (xs : List ℕ) → length (filter test xs) ≤ length xs
 not_more test [] = omega arith
-not_more test (x ∷ xs) = by_test (test x) (not_more test xs)
-  where
-    by_test : (b : Bool) → length (filter test xs) ≤ length xs
-        → length (cond b (x ∷ filter test xs) (filter test xs)) ≤ length (x ∷ xs)
-    by_test true h = omega (arith, h)
-    by_test false h = omega (arith, h)
+not_more test (x ∷ xs) = grind (arith, not_more test xs)
 
 all_filter : (P : ℕ → Type 0) (test : ℕ → Bool) (xs : List ℕ) → AllByRecursion P xs → AllByRecursion P (filter test xs)
 all_filter P test [] all = tt
-all_filter P test (x ∷ xs) all = by_test (test x) (all_filter P test xs all.1)
-  where
-    by_test : (b : Bool) → AllByRecursion P (filter test xs) → AllByRecursion P (cond b (x ∷ filter test xs) (filter test xs))
-    by_test true rest = (all.0, rest)
-    by_test false rest = rest
+all_filter P test (x ∷ xs) all =
+    let rest = all_filter P test xs all.1 in
+    cond_both (test x) (x ∷ filter test xs) (filter test xs) (AllByRecursion P) (λ _. (all.0, rest))
+    (λ _. rest)
 
 pub left_kept : (order : List Event) (member : ℕ) → length order ≤ 500_000 → OrderIsKept order → OrderIsKept (order ++ view_without order member ∷ [])
 left_kept order member short kept =

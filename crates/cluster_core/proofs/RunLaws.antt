@@ -1,7 +1,5 @@
 -- Steps of one node, one after another.
 use Rattle.std.proofs.Common.{◌≡◌, ℕ, zero, suc, ◌+◌, ◌-◌, List, [], ◌∷◌, ◌++◌, refl, sym, ap, subst, ◌∙◌, arith, append_assoc}
-use Rattle.std.specs.Prelude.{replicate}
-use Rattle.std.proofs.lemmas.List.{replicate-append-replicate}
 use Rattle.order_event.specs.declared.event.Event.{Event}
 use Rattle.order_event.specs.declared.step.Act.{Act}
 use Rattle.order_event.specs.declared.step.Act.TheVariants as act
@@ -71,10 +69,7 @@ stops_later one other a b c m n o next ran stops = record {
   ran = runs_then one stops.done a b c m n o ran stops.ran;
 }
 
--- ---- so many steps of one kind, and the steps of so many commits
-pub replicate_split : (k r : ℕ) (a : Act) → replicate (k + r) a ≡ replicate k a ++ replicate r a
-replicate_split k r a = sym (replicate-append-replicate k r a)
-
+-- ---- the steps of so many commits
 pub commit_split : (order : List Event) (k r : ℕ) (n : ModelNode)
     → commit_acts order (k + r) n ≡ commit_acts order k n ++ commit_acts order r (times k (commit_next order) n)
 commit_split order zero r n = ap (λ j. commit_acts order j n) (let e : 0 + r ≡ r = omega arith in e)

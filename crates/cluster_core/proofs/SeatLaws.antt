@@ -1,11 +1,10 @@
 -- A seat after a step of its node, and under an order that grows.
-use Rattle.std.proofs.Common.{◌≡◌, ℕ, ◌<◌, Bool, true, false, cond, List, [], ◌++◌, Result, Ok, Err, None, Some, refl, sym, ap, subst, ◌∙◌}
+use Rattle.std.proofs.Common.{◌≡◌, ℕ, ◌<◌, Bool, true, false, cond, List, [], ◌++◌, Result, Ok, Err, None, Some, refl, sym, ap, subst, ◌∙◌, arith}
 use Rattle.std.specs.Prelude.{◌==◌, IsTrue, OnErr}
-use Rattle.std.proofs.lemmas.Bool.{eqb-true, eq-eqb}
+use Rattle.std.proofs.lemmas.Bool.Decides.{nat_tests}
 use Rattle.std.specs.Ordering.{nat_cmp, eq_by_cmp}
 use Rattle.std.specs.Cmp.{nat_cmp_total}
-use Rattle.std.proofs.lemmas.Option.{same_Some}
-use Rattle.finite_map.proofs.Edits.{numbers, tied, itself}
+use Rattle.finite_map.proofs.Edits.{numbers, tied}
 use Rattle.finite_map.specs.FiniteMap.{FiniteMap, get, insert, get-insert, get-empty}
 use Rattle.row_model.specs.declared.calls.Call.{Call}
 use Rattle.row_model.specs.declared.calls.Reply.{Reply}
@@ -32,15 +31,8 @@ use Rattle.cluster_core.specs.Seated.{Seat, IsSeated, IsSomewhere, SeatDone, Sea
 use Rattle.node_laws.proofs.StartedUnits.{client_units, take_units, certify_units, report_units, Starts, start_starts, finish_done, finish_idle}
 
 -- ---- numbers
-bool_same : (b c : Bool) → (b ≡ true → c ≡ true) → (c ≡ true → b ≡ true) → b ≡ c
-bool_same true c there back = sym (there refl)
-bool_same false true there back = back refl
-bool_same false false there back = refl
-
 tie : (a b : ℕ) → (a == b) ≡ eq_by_cmp nat_cmp b a
-tie a b = bool_same (a == b) (eq_by_cmp nat_cmp b a)
-    (λ e. subst (λ x. eq_by_cmp nat_cmp x a ≡ true) (eqb-true a b e) (itself numbers a))
-    (λ e. eq-eqb a b (sym (tied numbers b a e)))
+tie a b = grind (arith, nat_tests)
 
 pub on_err : {A E P : Type 0} (r : Result A E) → P → OnErr r P
 on_err (Ok a) p = tt
@@ -193,13 +185,13 @@ room_there order old new node number spare r u d room is =
 
 -- ---- finishing
 -- what is kept for a number is the work of a started unit
-kept_is : (order : List Event) (number : ℕ) (b : Bool) (t : ModelTask) → Some t ≡ work_of order number b → (b ≡ true) × (t ≡ unit_task order number)
-kept_is order number true t is = (refl, same_Some t (unit_task order number) is)
-kept_is order number false t is = absurd cc
+kept_is : (order : List Event) (number : ℕ) (b : Bool) (t : ModelTask)
+    → Some t ≡ work_of order number b → (b ≡ true) × (t ≡ unit_task order number)
+kept_is order number b t is = grind arith
 
-none_kept : (order : List Event) (number : ℕ) (b : Bool) → None ≡ work_of order number b → b ≡ false
-none_kept order number true is = absurd cc
-none_kept order number false is = refl
+none_kept : (order : List Event) (number : ℕ) (b : Bool) → None ≡ work_of order number b
+    → b ≡ false
+none_kept order number b is = grind arith
 
 module _ (old : Seat) (number : ℕ) (t : ModelTask) (kept : kept_at old.done number ≡ Some t) where
   kept_work : (order : List Event) → IsSeated order old

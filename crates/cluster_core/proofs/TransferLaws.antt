@@ -1,11 +1,11 @@
 -- What a donor offers to a node that joins is what the model hands over.
-use Rattle.std.proofs.Common.{◌≡◌, ℕ, zero, suc, ◌+◌, ◌-◌, ◌≤◌, ◌<◌, Bool, true, false, cond, not, min, List, [], ◌∷◌, length, take, drop, Option, Some, None, Result, Ok, Err, refl, sym, ap, subst, ◌∙◌, arith, leb-true, ltb-true, ltb-false, eq-eqb, length-drop}
-use Rattle.std.specs.Prelude.{◌==◌, ◌&&◌, nat_le, nat_lt, is_some, IfErr, IsTrue}
+use Rattle.std.proofs.Common.{◌≡◌, ℕ, zero, suc, ◌+◌, ◌-◌, ◌≤◌, Bool, true, false, cond, not, min, List, [], ◌∷◌, length, take, drop, Option, Some, None, Ok, refl, sym, ap, subst, ◌∙◌, arith, leb-true, eq-eqb, length-drop}
+use Rattle.std.specs.Prelude.{nat_le, nat_lt, IsTrue}
 use Rattle.std.specs.List.{AllByRecursion}
 use Rattle.std.specs.Str.{bytes_eq}
+use Rattle.std.proofs.lemmas.Bool.{and_parts, le-ltb}
 use Rattle.std.proofs.lemmas.List.{length-take, drop-take}
 use Rattle.std.proofs.lemmas.Slice.Eq.{bytes_eq-Decides}
-use Rattle.wsrep_base.specs.StateId.{nil_id}
 use Rattle.order_event.specs.declared.event.Event.{Event}
 use Rattle.order_event.specs.Spelling.{HasFewMembers}
 use Rattle.order_event.specs.declared.step.Answer.{Answer}
@@ -19,35 +19,15 @@ use Rattle.node_meaning.specs.Facts.{own_body}
 use Rattle.node_meaning.specs.Joining.{ring_of, received_events, received_snapshot, by_snapshot, by_plan, transfer_plan, transfer_from}
 use Rattle.node_core.specs.declared.gift.Gift.{Gift}
 use Rattle.node_core.specs.declared.gift.Gift.TheVariants as gift
-use Rattle.node_core.specs.declared.gift.GiveFault.{GiveFault}
-use Rattle.node_core.specs.declared.gift.GiveFault.TheVariants as given
 use Rattle.node_core.specs.declared.node.NodeParts.{NodeParts}
 use Rattle.node_core.specs.Giving.{Gives, gives_events, events_from, is_in}
 use Rattle.node_core.specs.Stands.{plain_of}
-use Rattle.node_laws.proofs.SetLists.{unequal}
 use Rattle.cluster_core.specs.declared.transfer.Offer.{Offer}
 use Rattle.cluster_core.specs.Steps.{hands_over}
-use Rattle.cluster_core.specs.Transfers.{Awaits, BringsEvents, BringsState, Brings, IsOffer, OfferWants, CanOffer}
+use Rattle.cluster_core.specs.Transfers.{Awaits, BringsEvents, Brings, IsOffer, CanOffer}
 use Rattle.cluster_core.proofs.OrderLaws.{all_few, order_fits}
 
--- ---- numbers and lists
-pub less_is : (a b : ℕ) → a < b → nat_lt a b ≡ true
-less_is a b less = by (nat_lt a b) refl
-  where
-    by : (x : Bool) → nat_lt a b ≡ x → nat_lt a b ≡ true
-    by true e = e
-    by false e = let f = ltb-false a b e in absurd (omega (arith, less, f))
-
-pub more_is : (a b : ℕ) → b ≤ a → nat_lt a b ≡ false
-more_is a b more = by (nat_lt a b) refl
-  where
-    by : (x : Bool) → nat_lt a b ≡ x → nat_lt a b ≡ false
-    by true e = let f = ltb-true a b e in absurd (omega (arith, more, f))
-    by false e = e
-
-pub equal_is : (a b : ℕ) → a ≡ b → a == b ≡ true
-equal_is a b same = eq-eqb a b same
-
+-- ---- lists
 all_take : {A : Type 0} (P : A → Type 0) (k : ℕ) (xs : List A) → AllByRecursion P xs → AllByRecursion P (take k xs)
 all_take P zero xs all = tt
 all_take P (suc k) [] all = tt
@@ -58,57 +38,29 @@ all_drop P zero xs all = all
 all_drop P (suc k) [] all = tt
 all_drop P (suc k) (x ∷ xs) all = all_drop P k xs all.1
 
-both_second : (a b : Bool) → a && b ≡ true → b ≡ true
-both_second true b e = e
-both_second false b e = absurd cc
-
-pub bytes_same : (xs ys : List ℕ) → bytes_eq xs ys ≡ true → xs ≡ ys
-bytes_same xs ys e = (bytes_eq-Decides xs ys).0 e
-
 -- ---- the plan
-plan_says : (same : Bool) (p : ℕ) (range : Option (ℕ × ℕ)) (from : ℕ) → plan_of same p range ≡ plan.Ist from
+plan_says : (same : Bool) (p : ℕ) (range : Option (ℕ × ℕ)) (from : ℕ)
+    → plan_of same p range ≡ plan.Ist from
     → (from ≡ p + 1) × (same ≡ true) × (is_in range from ≡ true)
-plan_says same p None from is = absurd cc
-plan_says same p (Some range) from is = by same (nat_le range.0 (p + 1)) (nat_le (p + 1) range.1) refl refl is
-  where
-    by : (a b c : Bool) → nat_le range.0 (p + 1) ≡ b → nat_le (p + 1) range.1 ≡ c → cond (a && b && c) (plan.Ist (p + 1)) plan.Sst ≡ plan.Ist from
-        → (from ≡ p + 1) × (a ≡ true) × (is_in (Some range) from ≡ true)
-    by true true true low high it =
-        let next : p + 1 ≡ from = cc in
-        (sym next, refl, subst (λ k. is_in (Some range) k ≡ true) next (λ i. low i && high i))
-    by true true false low high it = absurd cc
-    by true false c low high it = absurd cc
-    by false b c low high it = absurd cc
+plan_says same p range from is = grind arith
 
 in_range : (last : ℕ) (events : List Event) (from : ℕ) → is_in (range_to last events) from ≡ true → from ≤ last
 in_range last [] from is = absurd cc
 in_range last (e ∷ events) from is =
-    leb-true from last (both_second (nat_le (last - length (e ∷ events) + 1) from) (nat_le from last) is)
+    leb-true from last (and_parts (nat_le (last - length (e ∷ events) + 1) from) _ is).1
 
 -- ---- offers
-none_some : {A : Type 0} (o : Option A) → o ≡ None → is_some o ≡ true → ⊥
-none_some None none some = cc
-none_some (Some x) none some = cc
-
-module _ (order : List Event) (n : ModelNode) (offer : Offer) where
-  pub refusal : (told : Answer × ModelNode) (a : Answer) → told ≡ (a, n) → (offer.answer ≡ a) × (offer.gift ≡ None) → IsOffer order n told offer
-  refusal told a is says =
-      subst (λ t. IsOffer order n t offer) (sym is)
-      (record {
-        answer = says.0;
-        hands = λ some. absurd (none_some offer.gift says.1 some);
-        brings = subst (λ g. Brings order n g n) (sym says.1) refl;
-      })
-
-  pub handing : (told : Answer × ModelNode) (a : Answer) (after : ModelNode) (g : Gift) → told ≡ (a, after) → IsTrue (hands_over a) → (offer.answer ≡ a) × (offer.gift ≡ Some g)
-      → Brings order n (Some g) after → IsOffer order n told offer
-  handing told a after g is hands says brings =
-      subst (λ t. IsOffer order n t offer) (sym is)
-      (record {
-        answer = says.0;
-        hands = λ some. hands;
-        brings = subst (λ o. Brings order n o after) (sym says.1) brings;
-      })
+pub handing : (order : List Event) (n : ModelNode) (offer : Offer) (told : Answer × ModelNode)
+    (a : Answer) (after : ModelNode) (g : Gift) → told ≡ (a, after) → IsTrue (hands_over a)
+    → (offer.answer ≡ a) × (offer.gift ≡ Some g) → Brings order n (Some g) after
+    → IsOffer order n told offer
+handing order n offer told a after g is hands says brings =
+    subst (λ t. IsOffer order n t offer) (sym is)
+    (record {
+      answer = says.0;
+      hands = λ some. hands;
+      brings = subst (λ o. Brings order n o after) (sym says.1) brings;
+    })
 
 module _ (order : List Event) (n d : ModelNode) where
   abbrev by_view : Bool → Answer × ModelNode
@@ -117,15 +69,11 @@ module _ (order : List Event) (n d : ModelNode) where
   abbrev by_phase : Bool → Answer × ModelNode
   by_phase b = cond (not b) (answer.NoDonor, n) (by_view (nat_lt d.at.taken n.at.view))
 
-  pub from_away : is_connected d.at.phase ≡ false → transfer_from order n (Some d) ≡ (answer.NoDonor, n)
-  from_away away = ap by_phase away
-
-  module _ (connected : is_connected d.at.phase ≡ true) where
-    pub from_behind : d.at.taken < n.at.view → transfer_from order n (Some d) ≡ (answer.DonorBehind n.at.view d.at.taken, n)
-    from_behind less = ap by_phase connected ∙ ap by_view (less_is d.at.taken n.at.view less)
-
-    pub from_plan : (p : Plan) → n.at.view ≤ d.at.taken → p ≡ transfer_plan order n d → transfer_from order n (Some d) ≡ by_plan n d p
-    from_plan p more is = ap by_phase connected ∙ ap by_view (more_is d.at.taken n.at.view more) ∙ ap (by_plan n d) (sym is)
+  pub from_plan : is_connected d.at.phase ≡ true → (p : Plan) → n.at.view ≤ d.at.taken
+      → p ≡ transfer_plan order n d → transfer_from order n (Some d) ≡ by_plan n d p
+  from_plan connected p more is =
+      ap by_phase connected ∙ ap by_view (le-ltb d.at.taken n.at.view more)
+      ∙ ap (by_plan n d) (sym is)
 
   abbrev by_committed : Bool → Answer × ModelNode
   by_committed b =
@@ -134,28 +82,11 @@ module _ (order : List Event) (n d : ModelNode) where
   abbrev by_done : Bool → Answer × ModelNode
   by_done b = cond (not b) (answer.DonorBusy d.at.certified d.at.committed, n) (by_committed (nat_lt d.at.committed n.at.view))
 
-  pub snapshot_busy : (d.at.certified ≡ d.at.committed → ⊥) → by_snapshot n d ≡ (answer.DonorBusy d.at.certified d.at.committed, n)
-  snapshot_busy differ = ap by_done (unequal d.at.certified d.at.committed differ)
-
-  pub snapshot_behind : d.at.certified ≡ d.at.committed → d.at.committed < n.at.view
-      → by_snapshot n d ≡ (answer.DonorBehind n.at.view d.at.committed, n)
-  snapshot_behind same less = ap by_done (equal_is d.at.certified d.at.committed same) ∙ ap by_committed (less_is d.at.committed n.at.view less)
-
   pub snapshot_there : d.at.certified ≡ d.at.committed → n.at.view ≤ d.at.committed
       → by_snapshot n d ≡ (answer.Sst d.at.committed, received_snapshot d.at.committed d.id n)
-  snapshot_there same more = ap by_done (equal_is d.at.certified d.at.committed same) ∙ ap by_committed (more_is d.at.committed n.at.view more)
-
-  -- a donor that gives events, or that has committed all that it certified, is not busy
-  pub gives_first : (from : ℕ) (r : Result Gift GiveFault) → gives_events order d from true ≡ true → Gives order d from true r
-      → IfErr r (λ it. it ≡ given.NoMemory)
-  gives_first from (Ok g) gives is = tt
-  gives_first from (Err (given.Busy a b)) gives is = let e = is.0 in absurd cc
-  gives_first from (Err given.NoMemory) gives is = refl
-
-  pub gives_state : (r : Result Gift GiveFault) → d.at.certified ≡ d.at.committed → Gives order d 0 false r → IfErr r (λ it. it ≡ given.NoMemory)
-  gives_state (Ok g) same is = tt
-  gives_state (Err (given.Busy a b)) same is = absurd (is.3 (is.1 ∙ same ∙ sym is.2))
-  gives_state (Err given.NoMemory) same is = refl
+  snapshot_there same more =
+      ap by_done (eq-eqb d.at.certified d.at.committed same)
+      ∙ ap by_committed (le-ltb d.at.committed n.at.view more)
 
 -- the plan is made of the same ids, the same number and the donor's ring
 pub plan_is : (order : List Event) (n d : ModelNode) (same : Bool) (p : ℕ) (range : Option (ℕ × ℕ)) (one other : List ℕ) (ring : Ring)
@@ -231,7 +162,8 @@ module _ (order : List Event) (n : ModelNode) (node : NodeParts) (can : CanOffer
                 (all_take HasFewMembers count (drop n.at.taken order) (all_drop HasFewMembers n.at.taken order (all_few order can.kept)));
             others = subst (AllByRecursion (λ e. own_body n.at.member e ≡ None)) (sym are)
                 (all_take (λ e. own_body n.at.member e ≡ None) count (drop n.at.taken order) awaits.others);
-            given = λ nil. can.stands.serves.id connected (sym (bytes_same n.id node.id says.1) ∙ nil);
+            given = λ nil. can.stands.serves.id connected
+                (sym ((bytes_eq-Decides n.id node.id).0 says.1) ∙ nil);
           };
         }
 

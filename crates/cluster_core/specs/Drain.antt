@@ -1,7 +1,8 @@
 -- the parts that a drain is made of
-use Rattle.std.specs.Prelude.{◌≡◌, ◌≤◌, ◌<◌, ◌^◌, ℕ, ◌+◌, ◌-◌, List, length, replicate}
+use Rattle.std.specs.Prelude.{◌≡◌, ◌≤◌, ◌<◌, ℕ, ◌+◌, ◌-◌, List, length, replicate}
 use Rattle.wsrep_base.specs.declared.limits.TheConstants.{MOST_EVENTS}
 use Rattle.finite_map.specs.FiniteMap.{len}
+use Rattle.wsrep_base.specs.declared.limits.TheConstants.{NUMBERS_END}
 use Rattle.order_event.specs.declared.event.Event.{Event}
 use Rattle.order_event.specs.declared.step.Act.{Act}
 use Rattle.order_event.specs.declared.step.Act.TheVariants as act
@@ -81,4 +82,4 @@ IsSomewhereShort seat = (order : List Event) × IsSeated order seat × (length o
 
 -- there are serials for one more write set, and for one of each live transaction
 abbrev pub HasSerials : Seat → Type 0
-HasSerials seat = seat.node.at.serial + len seat.node.live < 2 ^ 63
+HasSerials seat = seat.node.at.serial + len seat.node.live < NUMBERS_END

@@ -1,4 +1,4 @@
-ghost use Rattle.std.specs.Prelude.{◌≡◌, ◌≢◌, ◌≤◌, ◌<◌, ◌+◌, ◌^◌, length, IfOk, IfErr, OnOk, IsTrue};
+ghost use Rattle.std.specs.Prelude.{◌≡◌, ◌≢◌, ◌≤◌, ◌<◌, ◌+◌, length, IfOk, IfErr, OnOk, IsTrue};
 ghost use Rattle.wsrep_base.specs.declared.limits.TheConstants.{MOST_EVENTS};
 ghost use Rattle.wsrep_base.specs.StateId.{nil_id};
 ghost use Rattle.order_event.specs.Fits.{step_fits};
@@ -73,7 +73,7 @@ impl<G: Group, W: Watcher> ClusterOf<G, W> {
         requires some { 1 ≤ nodes }
         requires few { nodes ≤ 9 }
         requires id { id ≢ nil_id }
-        requires ring { gcache ≤ 16_777_216 }
+        requires ring { gcache ≤ MOST_RING_BYTES }
         requires order { G.order group ≡ start_order nodes }
         ensures start { IfOk result (λ c. c.model ≡ start_cluster nodes gcache id) }
         ensures faults { IfOk result (λ c. c.faults ≡ G.faults group) }
@@ -91,7 +91,7 @@ impl<G: Group, W: Watcher> ClusterOf<G, W> {
         requires names { IsTrue (step_fits step.now) }
         requires events { length self.old.model.order + will_order self.old.model step.now
             ≤ MOST_EVENTS }
-        requires counts { given self.old.model < 2 ^ 63 }
+        requires counts { given self.old.model < NUMBERS_END }
         ensures ok { IfOk result
             (λ answer. (answer, self.new.model) ≡ cluster_step self.old.model step.now) }
         // It stopped at a step that may come to this fault, and left what was done before it.
@@ -151,6 +151,7 @@ impl<G: Group, W: Watcher> ClusterOf<G, W> {
 ghost use Rattle.order_event.specs.declared.event.Event.{Event as Ordered};
 ghost use Rattle.std.specs.Prelude.{List, map};
 ghost use Rattle.std.specs.List.{AllByRecursion};
+ghost use Rattle.wsrep_base.specs.declared.limits.TheConstants.{MOST_RING_BYTES, NUMBERS_END};
 ghost use Rattle.group_order.specs.Order.{up_to};
 ghost use Rattle.node_meaning.specs.Node.{start_node};
 ghost use Rattle.cluster_core.specs.Seated.{IsSeated, seen};
@@ -165,7 +166,7 @@ fn seats_of<W: Watcher>(
     watch: Vec<W>,
 ) -> Result<Vec<Seat<W>>, NoMemory>
     requires id { id ≢ nil_id }
-    requires ring { gcache ≤ 16_777_216 }
+    requires ring { gcache ≤ MOST_RING_BYTES }
     ensures nodes { IfOk result
         (λ seats. nodes_of seats.items ≡ map (start_node gcache id) (up_to nodes)) }
     ensures seated { IfOk result

@@ -1,4 +1,4 @@
-ghost use Rattle.std.specs.Prelude.{◌≡◌, ◌≢◌, ◌≤◌, ◌<◌, ◌^◌, List, IfOk, OnOk, OnErr, IsTrue};
+ghost use Rattle.std.specs.Prelude.{◌≡◌, ◌≢◌, ◌≤◌, ◌<◌, List, IfOk, OnOk, OnErr, IsTrue};
 
 use apply_unit::Done;
 use node_core::{
@@ -44,7 +44,7 @@ impl<W: Watcher> Seat<W> {
         watcher: Option<W>,
     ) -> Result<Seat<W>, NoMemory>
         requires id { id ≢ nil_id }
-        requires ring { gcache ≤ 16_777_216 }
+        requires ring { gcache ≤ MOST_RING_BYTES }
         ensures start { IfOk result (λ seat. plain_of seat.node.parts
             ≡ start_node gcache id member) }
         ensures seated { IfOk result (λ seat. (order : List Ordered) → IsSeated order (seen seat)) }
@@ -74,7 +74,7 @@ impl<W: Watcher> Seat<W> {
     /// The next event of the order is taken.
     pub(crate) fn take(&mut self, event: &Event) -> Result<Answer, NoMemory>
         requires seated { IsSomewhere (seen self.old) }
-        requires number { self.old.node.parts.at.taken < 2 ^ 63 }
+        requires number { self.old.node.parts.at.taken < NUMBERS_END }
         requires members { HasFewMembers event.now }
         ensures ok { IfOk result (SeatTakes event.now (seen self.old) (seen self.new)) }
         ensures err { OnErr result (SeatUnchanged (seen self.old) (seen self.new)) }
@@ -99,7 +99,7 @@ impl<W: Watcher> Seat<W> {
     /// The unit of the commit with this number is started, and its work done.
     pub(crate) fn start(&mut self, number: u64) -> Result<Answer, NoMemory>
         requires seated { IsSomewhere (seen self.old) }
-        requires serial { self.old.node.parts.at.serial < 2 ^ 63 }
+        requires serial { self.old.node.parts.at.serial < NUMBERS_END }
         ensures ok { IfOk result
             (SeatDoes (λ order n. node_step order n (act.Start number))
             (seen self.old) (seen self.new)) }
@@ -187,6 +187,7 @@ impl<W: Watcher> Seat<W> {
 
 ghost use Rattle.std.specs.HashMap.{spare};
 ghost use Rattle.std.specs.Prelude.{◌&&◌, ◌==◌, if◌then◌else◌};
+ghost use Rattle.wsrep_base.specs.declared.limits.TheConstants.{MOST_RING_BYTES, NUMBERS_END};
 ghost use Rattle.node_meaning.specs.Node.{is_left, is_joining};
 ghost use Rattle.node_core.specs.Answers.{taken_answer, certified_answer, started_answer, advanced_answer, reported_answer, status_answer};
 ghost use Rattle.node_core.specs.Memory.{is_start};

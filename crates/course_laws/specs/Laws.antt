@@ -5,6 +5,7 @@ use Rattle.finite_map.specs.FiniteMap.{get}
 use Rattle.wsrep_base.specs.declared.ids.TrxId.{TrxId}
 use Rattle.wsrep_base.specs.declared.verdict.Verdict.{Verdict}
 use Rattle.wsrep_base.specs.declared.verdict.Verdict.TheVariants as verdict
+use Rattle.wsrep_base.specs.declared.limits.TheConstants.{NUMBERS_END}
 use Rattle.order_event.specs.declared.event.Event.{Event}
 use Rattle.order_event.specs.declared.event.Event.TheVariants as event
 use Rattle.order_event.specs.declared.step.Act.{Act}
@@ -109,8 +110,8 @@ abbrev pub CoursesAreLawful : Type 0
 CoursesAreLawful =
     (nodes gcache member : ℕ) (id : List ℕ) (happens : List Happens)
     → 1 ≤ member → member ≤ nodes → member < 2 ^ 32
-    → AllFit (start_course nodes gcache id member) happens → length happens < 2 ^ 63
-    → length (course (start_course nodes gcache id member) happens).order ≤ 2 ^ 63
+    → AllFit (start_course nodes gcache id member) happens → length happens < NUMBERS_END
+    → length (course (start_course nodes gcache id member) happens).order ≤ NUMBERS_END
     → CourseLaws (course (start_course nodes gcache id member) happens)
 
 -- ---- runs of a cluster
@@ -132,7 +133,7 @@ AllAreDecided order = (member : ℕ) → OwnAreDecided order member
 abbrev pub RunsAreLawful : Type 0
 RunsAreLawful =
     (nodes gcache : ℕ) (id : List ℕ) (steps : List Step)
-    → nodes + joins steps < 2 ^ 32 → length steps < 2 ^ 63
+    → nodes + joins steps < 2 ^ 32 → length steps < NUMBERS_END
     → AllByRecursion (λ (step : Step). ActFits step.act) steps → (i : ℕ) (n : ModelNode)
     → slice_get (run steps (start_cluster nodes gcache id)).1.nodes i ≡ Some n
     → NodeLaws (run steps (start_cluster nodes gcache id)).1.order n
@@ -141,7 +142,7 @@ RunsAreLawful =
 abbrev pub RunsDecideAll : Type 0
 RunsDecideAll =
     (nodes gcache : ℕ) (id : List ℕ) (steps : List Step)
-    → nodes + joins steps < 2 ^ 32 → length steps < 2 ^ 63
+    → nodes + joins steps < 2 ^ 32 → length steps < NUMBERS_END
     → AllByRecursion (λ (step : Step). ActFits step.act) steps
     → AllAreDecided (run steps (start_cluster nodes gcache id)).1.order
 
@@ -149,7 +150,7 @@ RunsDecideAll =
 abbrev pub RunsNeverSplit : Type 0
 RunsNeverSplit =
     (nodes gcache : ℕ) (id : List ℕ) (steps : List Step)
-    → nodes + joins steps < 2 ^ 32 → length steps < 2 ^ 63
+    → nodes + joins steps < 2 ^ 32 → length steps < NUMBERS_END
     → AllByRecursion (λ (step : Step). ActFits step.act) steps
     → AllByRecursion (λ (a : Answer). a ≡ answer.Split → ⊥)
     (run steps (start_cluster nodes gcache id)).0

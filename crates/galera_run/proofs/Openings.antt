@@ -6,8 +6,8 @@ use Rattle.order_event.specs.declared.step.Step.{Step}
 use Rattle.node_meaning.specs.Cluster.{ModelCluster, start_cluster, will_order}
 use Rattle.cluster_core.specs.State.{ClusterState}
 use Rattle.node_laws.specs.Given.{given}
+use Rattle.galera_run.specs.declared.line.TheConstants.{MOST_EVENTS}
 use Rattle.galera_run.specs.Places.{Opened}
-use Rattle.galera_run.specs.Reading.{most_events}
 use Rattle.galera_run.specs.Feeding.{IsCounted}
 
 first_events : (nodes gcache : ℕ) (id : List ℕ)
@@ -32,13 +32,13 @@ is_at_most m n e = grind (arith, nat_tests)
 
 -- a step that was done within the limit on events
 pub step_counted : (steps : ℕ) (o : Opened) (step : Step) (new : ClusterState) → IsCounted steps o
-    → false ≡ nat_lt most_events (length o.cluster.model.order + will_order o.cluster.model step)
+    → false ≡ nat_lt MOST_EVENTS (length o.cluster.model.order + will_order o.cluster.model step)
     → given new.model ≤ given o.cluster.model + 1 → length new.model.nodes ≡ length o.cluster.model.nodes
     → length new.model.order ≡ length o.cluster.model.order + will_order o.cluster.model step → new.faults ≡ o.cluster.faults
     → IsCounted (steps + 1) (record { nodes = o.nodes; cluster = new })
 step_counted steps o step new h within grows nodes events faults = record {
   nodes = nodes ∙ h.nodes;
-  events = omega (arith, events, is_at_most most_events (length o.cluster.model.order + will_order o.cluster.model step) within);
+  events = omega (arith, events, is_at_most MOST_EVENTS (length o.cluster.model.order + will_order o.cluster.model step) within);
   faults = faults ∙ h.faults;
   within = omega (arith, grows, h.within);
 }

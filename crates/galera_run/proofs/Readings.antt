@@ -7,11 +7,12 @@ use Rattle.std.proofs.lemmas.List.{append-nil, length-append, take-append-drop, 
 use Rattle.order_event.specs.declared.step.Answer.{Answer}
 use Rattle.script_text.specs.declared.line.ScriptCause.{ScriptCause}
 use Rattle.script_text.specs.declared.line.ScriptCause.TheVariants as cause
+use Rattle.galera_run.specs.declared.line.TheConstants.{MOST_BYTES}
 use Rattle.galera_run.specs.Places.{Place, Script}
 use Rattle.galera_run.specs.declared.fault.RunFault.{RunFault}
 use Rattle.galera_run.specs.declared.fault.RunFault.TheVariants as stop
 use Rattle.galera_run.specs.Lines.{lines_to, last_line}
-use Rattle.galera_run.specs.Reading.{Told, front, follows, told_from, line_at, answer_line, most_bytes}
+use Rattle.galera_run.specs.Reading.{Told, front, follows, told_from, line_at, answer_line}
 use Rattle.galera_run.specs.Writing.{AppendsFront}
 use Rattle.galera_run.specs.Feeding.{told_by, GoesOn, IsRefused, Feeds, Refuses, CutsShort, Halts, Runs, RunsCut, LineStops, Stops}
 use Rattle.galera_run.proofs.Writes.{appends_nothing, appends_both, keeps_appends}
@@ -137,16 +138,16 @@ byte_line q bytes b =
       | false ↦ begun_line q bytes b
     ]
 
-limit_passed : (p : Place) (line : List ℕ) → most_bytes < p.before + length line → line_at p line ≡ Err cause.Limit
-limit_passed p line h = rw (lt-leb (p.before + length line) most_bytes h)
+limit_passed : (p : Place) (line : List ℕ) → MOST_BYTES < p.before + length line → line_at p line ≡ Err cause.Limit
+limit_passed p line h = rw (lt-leb (p.before + length line) MOST_BYTES h)
 
 -- a byte too many is refused, whatever its line says
-pub too_far : (p : Place) (q : List ℕ) (b : ℕ) → most_bytes ≤ p.before + length q →
+pub too_far : (p : Place) (q : List ℕ) (b : ℕ) → MOST_BYTES ≤ p.before + length q →
     IsRefused (record { place = p; pending = q }) (b ∷ []) [] p.number cause.Limit
 too_far p q b h = record {
   rest = λ bytes.
       let f = byte_line q bytes b in
-      let far : most_bytes < p.before + length ((q ++ b ∷ []) ++ f.more) =
+      let far : MOST_BYTES < p.before + length ((q ++ b ∷ []) ++ f.more) =
       omega (arith, length-append (q ++ b ∷ []) f.more, length-append q (b ∷ [])) in
       ap (told_from p) f.is
       ∙ ap (λ r. follows p r (λ next. told_from next f.later)) (limit_passed p ((q ++ b ∷ []) ++ f.more) far);

@@ -17,8 +17,9 @@ use Rattle.script_text.proofs.FitLemmas.{first_is}
 use Rattle.node_meaning.specs.Cluster.{will_order, cluster_step}
 use Rattle.node_laws.proofs.ClusterLaws.{ActFits}
 use Rattle.answer_laws.proofs.RunAnswers.{few_joins}
+use Rattle.galera_run.specs.declared.line.TheConstants.{MOST_BYTES, MOST_STEPS, MOST_EVENTS}
 use Rattle.galera_run.specs.Places.{Opened, Place}
-use Rattle.galera_run.specs.Reading.{Told, Reached, place, fault, start, follows, told_from, line_at, read_at, opened_at, stepped_at, answered_at, is_within, most_bytes, most_steps, most_events}
+use Rattle.galera_run.specs.Reading.{Told, Reached, place, fault, start, follows, told_from, line_at, read_at, opened_at, stepped_at, answered_at, is_within}
 use Rattle.galera_run.specs.Schedules.{LineStep, said_step, steps_behind, Schedule, schedule_at, schedule_from, text_of_steps}
 use Rattle.galera_run.specs.Replicated.{ReplicatesOver, LinesReplicate}
 use Rattle.galera_run.proofs.LineRanges.{line_is_fit}
@@ -78,13 +79,13 @@ is_below m n e = grind (arith, nat_tests)
 
 -- the next place
 abbrev IsNext : Place → Place → Type 0
-IsNext p next = (next.steps ≤ most_steps) × (next.number ≡ p.number + 1)
+IsNext p next = (next.steps ≤ MOST_STEPS) × (next.number ≡ p.number + 1)
 
 abbrev Goes : Place → Result (Option Answer × Place) ScriptCause → Type 0
 Goes p (Err c) = Unit {0}
 Goes p (Ok (answer, next)) = IsNext p next
 
-module _ (p : Place) (line : List ℕ) (few : p.steps ≤ most_steps) where
+module _ (p : Place) (line : List ℕ) (few : p.steps ≤ MOST_STEPS) where
   opens : (r : Result (Option Header) ScriptCause) → Goes p (opened_at p line r)
   opens (Err c) = tt
   opens (Ok None) = (few, refl)
@@ -96,9 +97,9 @@ module _ (p : Place) (line : List ℕ) (few : p.steps ≤ most_steps) where
   answers o step false e = tt
   answers o step true e =
       let model = o.cluster.model in
-      let less = is_below p.steps most_steps
-      (both (nat_lt p.steps most_steps)
-      (nat_le (length model.order + will_order model step) most_events) e).0 in
+      let less = is_below p.steps MOST_STEPS
+      (both (nat_lt p.steps MOST_STEPS)
+      (nat_le (length model.order + will_order model step) MOST_EVENTS) e).0 in
       (omega (arith, less), refl)
 
   says : (o : Opened) (r : Result Line ScriptCause) → Goes p (stepped_at p line o r)
@@ -116,7 +117,7 @@ module _ (p : Place) (line : List ℕ) (few : p.steps ≤ most_steps) where
   fits_in false = tt
 
   goes : Goes p (line_at p line)
-  goes = fits_in (nat_le (p.before + length line) most_bytes)
+  goes = fits_in (nat_le (p.before + length line) MOST_BYTES)
 
 -- the lines before the one at fault are run
 pub record IsStopped (p : Place) (lines : List (List ℕ)) (number : ℕ) : Type 0 where
@@ -124,11 +125,11 @@ pub record IsStopped (p : Place) (lines : List (List ℕ)) (number : ℕ) : Type
   pub is : number ≡ p.number + before
   pub within : before ≤ length lines
   pub at : Place
-  pub few : at.steps ≤ most_steps
+  pub few : at.steps ≤ MOST_STEPS
   pub reaches : (told_from p (take before lines)).reached ≡ place at
 
 abbrev IsRun : Place → List (List ℕ) → Reached → Type 0
-IsRun p lines (place q) = q.steps ≤ most_steps
+IsRun p lines (place q) = q.steps ≤ MOST_STEPS
 IsRun p lines (fault number c) = IsStopped p lines number
 
 run_on : (p next : Place) (answer : Option Answer) (line : List ℕ) (lines : List (List ℕ))
@@ -145,9 +146,9 @@ run_on p next answer line lines is goes (fault number c) h = record {
       ∙ h.reaches;
 }
 
-run_by : (p : Place) (line : List ℕ) (lines : List (List ℕ)) → p.steps ≤ most_steps
+run_by : (p : Place) (line : List ℕ) (lines : List (List ℕ)) → p.steps ≤ MOST_STEPS
     → (r : Result (Option Answer × Place) ScriptCause) → line_at p line ≡ r → Goes p r
-    → ((next : Place) → next.steps ≤ most_steps
+    → ((next : Place) → next.steps ≤ MOST_STEPS
     → IsRun next lines (told_from next lines).reached)
     → IsRun p (line ∷ lines) (follows p r (λ q. told_from q lines)).reached
 run_by p line lines few (Err c) is goes later = record {
@@ -161,14 +162,14 @@ run_by p line lines few (Err c) is goes later = record {
 run_by p line lines few (Ok (answer, next)) is goes later =
     run_on p next answer line lines is goes (told_from next lines).reached (later next goes.0)
 
-are_run : (lines : List (List ℕ)) (p : Place) → p.steps ≤ most_steps
+are_run : (lines : List (List ℕ)) (p : Place) → p.steps ≤ MOST_STEPS
     → IsRun p lines (told_from p lines).reached
 are_run [] p few = few
 are_run (line ∷ lines) p few =
     run_by p line lines few (line_at p line) refl (goes p line few) (are_run lines)
 
 -- ---- the run over lines that are run
-by_header : (steps : List LineStep) (state : Option Opened) (count : ℕ) → count ≤ most_steps
+by_header : (steps : List LineStep) (state : Option Opened) (count : ℕ) → count ≤ MOST_STEPS
     → (o : Option Header) → IsAt o steps state count → HasFit o steps
     → IfSome o (λ header. ReplicatesOver header steps)
 by_header steps state count few None at fits = tt
@@ -186,13 +187,13 @@ came lines q is =
     (runs_through lines start (record { state = refl; none = refl }))
 
 replicate_at : (lines : List (List ℕ)) (q : Place) → (told_from start lines).reached ≡ place q
-    → q.steps ≤ most_steps → LinesReplicate lines
+    → q.steps ≤ MOST_STEPS → LinesReplicate lines
 replicate_at lines q is few =
     by_header (schedule_from 1 lines).steps q.state q.steps few (schedule_from 1 lines).header
     (came lines q is).state (all_fit 1 lines)
 
 few_at : (lines : List (List ℕ)) (q : Place) → (told_from start lines).reached ≡ place q
-    → q.steps ≤ most_steps
+    → q.steps ≤ MOST_STEPS
 few_at lines q is = subst (IsRun start lines) is (are_run lines start (omega arith))
 
 -- ---- any lines: those up to the first at fault

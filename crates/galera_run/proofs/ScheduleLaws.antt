@@ -13,9 +13,10 @@ use Rattle.script_text.specs.declared.line.ScriptCause.TheVariants as cause
 use Rattle.script_text.specs.Grammar.{first_of, line_of}
 use Rattle.report_text.specs.Texts.{line_text}
 use Rattle.node_meaning.specs.Cluster.{ModelCluster, cluster_step, run}
+use Rattle.galera_run.specs.declared.line.TheConstants.{MOST_BYTES}
 use Rattle.galera_run.specs.Places.{Opened, Place}
 use Rattle.galera_run.specs.Lines.{lines_of}
-use Rattle.galera_run.specs.Reading.{Reached, place, fault, start, opened, follows, told_from, line_at, read_at, opened_at, stepped_at, answered_at, is_within, answer_line, most_bytes, run_of, finished, ending_of, end_of, end_text}
+use Rattle.galera_run.specs.Reading.{Reached, place, fault, start, opened, follows, told_from, line_at, read_at, opened_at, stepped_at, answered_at, is_within, answer_line, run_of, finished, ending_of, end_of, end_text}
 use Rattle.galera_run.specs.Schedules.{LineStep, line_step, Schedule, said_step, steps_behind, schedule_at, schedule_from, run_over, answers_text, cluster_of, text_of_steps, IsRunTo, EndsOver, RunsOverSteps}
 
 -- ---- lines behind the header, from a place with this cluster on
@@ -78,7 +79,7 @@ said_goes nodes p model line (Ok (said.Step step)) is =
 line_goes : (nodes : ℕ) (p : Place) (model : ModelCluster) (line : List ℕ) → p.state ≡ Some (opened nodes model)
     → Goes nodes p model line (line_at p line)
 line_goes nodes p model line is =
-    elim (nat_le (p.before + length line) most_bytes)
+    elim (nat_le (p.before + length line) MOST_BYTES)
     as (λ v. Goes nodes p model line (if v then read_at p line p.state else Err cause.Limit)) [
       | true ↦ subst (λ (o : Option Opened). Goes nodes p model line (read_at p line o)) (sym is) (said_goes nodes p model line (line_of nodes line) refl)
       | false ↦ tt
@@ -233,7 +234,7 @@ first_said p line (Ok (Some header)) is none =
 
 first_goes : (p : Place) (line : List ℕ) → IsEarly p → GoesFirst p line (line_at p line)
 first_goes p line early =
-    elim (nat_le (p.before + length line) most_bytes)
+    elim (nat_le (p.before + length line) MOST_BYTES)
     as (λ v. GoesFirst p line (if v then read_at p line p.state else Err cause.Limit)) [
       | true ↦ subst (λ (o : Option Opened). GoesFirst p line (read_at p line o)) (sym early.state) (first_said p line (first_of line) refl early.none)
       | false ↦ tt

@@ -9,20 +9,21 @@ use Rattle.node_laws.specs.Given.{given}
 use Rattle.script_text.specs.declared.line.ScriptCause.{ScriptCause}
 use Rattle.script_text.specs.declared.line.Header.{Header}
 use Rattle.script_text.specs.Steps.{IsHeader}
+use Rattle.galera_run.specs.declared.line.TheConstants.{MOST_BYTES, MOST_STEPS, MOST_EVENTS}
 use Rattle.galera_run.specs.Places.{Opened, Place, Script}
 use Rattle.galera_run.specs.declared.fault.RunFault.{RunFault}
 use Rattle.galera_run.specs.declared.fault.RunFault.TheVariants as stop
 use Rattle.galera_run.specs.declared.line.LineFault.{LineFault}
 use Rattle.galera_run.specs.declared.line.LineFault.TheVariants as fails
 use Rattle.galera_run.specs.Lines.{lines_to, last_line}
-use Rattle.galera_run.specs.Reading.{Told, opened, fault, front, told_from, line_at, answer_line, most_bytes, most_steps, most_events}
+use Rattle.galera_run.specs.Reading.{Told, opened, fault, front, told_from, line_at, answer_line}
 use Rattle.galera_run.specs.Writing.{IsFrontOf, AppendsFront}
 
 -- a cluster of so many nodes, with its counts within their limits, over a group that never failed;
 -- what it has given out is no more than one for each step
 pub record IsCounted (steps : ℕ) (o : Opened) : Type 0 where
   pub nodes : length o.cluster.model.nodes ≡ o.nodes
-  pub events : length o.cluster.model.order ≤ most_events
+  pub events : length o.cluster.model.order ≤ MOST_EVENTS
   pub faults : o.cluster.faults ≡ 0
   pub within : given o.cluster.model ≤ steps + 1
 
@@ -33,14 +34,14 @@ IsCountedIn steps (Some o) = IsCounted steps o
 -- the counts of a place are within their limits
 pub record Stands (p : Place) : Type 0 where
   pub numbered : p.number ≤ p.before + 1
-  pub within : p.before ≤ most_bytes
-  pub few : p.steps ≤ most_steps
+  pub within : p.before ≤ MOST_BYTES
+  pub few : p.steps ≤ MOST_STEPS
   pub counted : IsCountedIn p.steps p.state
 
 -- so is the line that has begun
 pub record IsSound (s : Script) : Type 0 where
   pub stands : Stands s.place
-  pub room : s.place.before + length s.pending ≤ most_bytes
+  pub room : s.place.before + length s.pending ≤ MOST_BYTES
 
 -- the bytes that were read
 abbrev pub read_count : Script → ℕ
@@ -135,9 +136,9 @@ ReadStops left_old left_new before old new stop.NoMemory =
 -- the next line is within the bytes allowed, and a cluster of its own is within its counts
 pub record IsRoomFor (p : Place) (line : List ℕ) (state : Option Opened) : Type 0 where
   pub numbered : p.number ≤ p.before + 1
-  pub room : p.before + length line ≤ most_bytes
+  pub room : p.before + length line ≤ MOST_BYTES
   pub some : 0 < length line
-  pub few : p.steps ≤ most_steps
+  pub few : p.steps ≤ MOST_STEPS
   pub counted : IsCountedIn p.steps state
 
 -- a header within its limits, whose id is not nil

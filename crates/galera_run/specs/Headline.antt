@@ -2,6 +2,7 @@
 use Rattle.std.specs.Prelude.{◌≡◌, ◌≤◌, ◌<◌, ◌+◌, ◌-◌, ◌==◌, ◌^◌, ℕ, suc, Bool, true, false, List, [], ◌∷◌, ◌++◌, length, map, take, flat_map, slice_get, Some, None}
 use Rattle.std.specs.List.{AllByRecursion}
 use Rattle.finite_map.specs.FiniteMap.{empty, get}
+use Rattle.wsrep_base.specs.declared.limits.TheConstants.{NUMBERS_END}
 use Rattle.row_model.specs.declared.row.RowId.{RowId}
 use Rattle.row_model.specs.declared.calls.Call.TheVariants as call
 use Rattle.row_model.specs.declared.calls.Reply.{Reply}
@@ -103,6 +104,6 @@ pub record Replicates (start : ModelCluster) (steps : List Step) : Type 0 where
 abbrev pub RunsReplicate : Type 0
 RunsReplicate =
     (nodes gcache : ℕ) (id : List ℕ) (steps : List Step) → nodes + joins steps < 2 ^ 32
-    → length steps < 2 ^ 63
+    → length steps < NUMBERS_END
     → AllByRecursion (λ (step : Step). ActFits step.act) steps
     → Replicates (start_cluster nodes gcache id) steps

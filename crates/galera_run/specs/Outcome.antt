@@ -4,11 +4,12 @@ use Rattle.std.specs.Io.KnownBytes.{Appends, Consumes, Keeps}
 use Rattle.outside_io.specs.Outside.{Rose}
 use Rattle.script_text.specs.declared.line.ScriptCause.{ScriptCause}
 use Rattle.node_meaning.specs.Cluster.{ModelCluster}
+use Rattle.galera_run.specs.declared.line.TheConstants.{MOST_BYTES}
 use Rattle.galera_run.specs.declared.fault.RunFault.{RunFault}
 use Rattle.galera_run.specs.declared.fault.RunFault.TheVariants as stop
 use Rattle.galera_run.specs.declared.fault.Finished.{Finished}
 use Rattle.galera_run.specs.Places.{Place}
-use Rattle.galera_run.specs.Reading.{Told, place, Run, finished, refused, run_told, run_of, first_text, told_so_far, text_so_far, most_bytes}
+use Rattle.galera_run.specs.Reading.{Told, place, Run, finished, refused, run_told, run_of, first_text, told_so_far, text_so_far}
 use Rattle.galera_run.specs.Writing.{IsFrontOf, AppendsFront}
 
 -- the run comes to the end of its input, with so many steps and events
@@ -46,7 +47,7 @@ pub record TellsFirst (input : List ℕ) (old new : Option (List ℕ)) : Type 0 
 -- them is refused
 pub record IsRead (left_old left_new : Option (List ℕ)) (taken : List ℕ) : Type 0 where
   pub read : Consumes left_old left_new taken
-  pub within : length taken ≤ most_bytes
+  pub within : length taken ≤ MOST_BYTES
   pub at : Place
   pub not_refused : (told_so_far taken).reached ≡ place at
 

@@ -12,18 +12,9 @@ use Rattle.report_text.specs.Texts.{line_text, node_text}
 use Rattle.group_order.specs.Order.{up_to}
 use Rattle.node_meaning.specs.Cluster.{ModelCluster, start_cluster, cluster_step, will_order}
 use Rattle.cluster_core.specs.State.{end_at, end_rows}
+use Rattle.galera_run.specs.declared.line.TheConstants.{MOST_BYTES, MOST_STEPS, MOST_EVENTS}
 use Rattle.galera_run.specs.Places.{Opened, Place}
 use Rattle.galera_run.specs.Lines.{lines_of, whole_lines}
-
--- the most bytes of an input, the most step lines, and the most events
-abbrev pub most_bytes : ℕ
-most_bytes = 33_554_432
-
-abbrev pub most_steps : ℕ
-most_steps = 200_000
-
-abbrev pub most_events : ℕ
-most_events = 100_000
 
 -- before the first line
 abbrev pub start : Place
@@ -58,7 +49,7 @@ answered_at p line nodes (answer, model) =
 -- one step line more is allowed, and so are the events that the step is going to order
 abbrev pub is_within : ℕ → ModelCluster → Step → Bool
 is_within steps model step =
-    nat_lt steps most_steps && nat_le (length model.order + will_order model step) most_events
+    nat_lt steps MOST_STEPS && nat_le (length model.order + will_order model step) MOST_EVENTS
 
 -- a line behind the header; a step that would pass a limit is refused, and nothing of it is done
 abbrev pub stepped_at : Place → List ℕ → Opened → Result Line ScriptCause
@@ -78,7 +69,7 @@ read_at p line (Some o) = stepped_at p line o (line_of o.nodes line)
 -- that passes the last byte allowed is refused, whatever it says
 abbrev pub line_at : Place → List ℕ → Result (Option Answer × Place) ScriptCause
 line_at p line =
-    if nat_le (p.before + length line) most_bytes then read_at p line p.state else Err cause.Limit
+    if nat_le (p.before + length line) MOST_BYTES then read_at p line p.state else Err cause.Limit
 
 -- what a line prints
 abbrev pub answer_line : Place → Option Answer → List ℕ

@@ -1,9 +1,11 @@
 ghost use Rattle.std.specs.Prelude.{◌≡◌, ◌+◌, ◌≤◌, ◌<◌, ◌^◌, length, nat_lt, Ok, Some, None, IfOk, OnOk, IfErr, IsTrue};
+ghost use Rattle.wsrep_base.specs.declared.limits.TheConstants.{NUMBERS_END};
 ghost use Rattle.order_event.specs.Fits.{step_fits};
 ghost use Rattle.script_text.specs.Grammar.{first_of, line_of};
 ghost use Rattle.script_text.specs.Steps.{IsStepOf};
 ghost use Rattle.node_meaning.specs.Cluster.{will_order};
-ghost use Rattle.galera_run.specs.Reading.{most_events, behind, opened_at, stepped_at, line_at};
+ghost use Rattle.galera_run.specs.declared.line.TheConstants.{MOST_EVENTS};
+ghost use Rattle.galera_run.specs.Reading.{behind, opened_at, stepped_at, line_at};
 ghost use Rattle.galera_run.specs.Feeding.{Stands, IsRoomFor, FailsAs, IsHeaderOf, IsOpenedBy, IsCounted};
 
 use crate::place::{Opened, Place};
@@ -161,9 +163,9 @@ fn run_step<W: Watcher>(
 // Whether the events that the step is going to order pass the limit.
 fn passes_events<W: Watcher>(cluster: &ClusterOf<MemGroup, W>, step: &Step) -> bool
     requires node { (1 ≤ step.now.node) × (step.now.node ≤ length cluster.now.model.nodes) }
-    requires events { length cluster.now.model.order ≤ most_events }
+    requires events { length cluster.now.model.order ≤ MOST_EVENTS }
     ensures { result
-        ≡ nat_lt most_events
+        ≡ nat_lt MOST_EVENTS
         (length cluster.now.model.order + will_order cluster.now.model step.now) }
 {
     cluster.will_order(step) > MOST_EVENTS - cluster.events()
@@ -171,7 +173,7 @@ fn passes_events<W: Watcher>(cluster: &ClusterOf<MemGroup, W>, step: &Step) -> b
 
 // Goes behind the line.
 fn pass<W: Watcher>(place: &mut Place<W>, line: &[u8], steps: u64, state: Option<Opened<W>>)
-    requires numbered { place.old.number < 2 ^ 63 }
+    requires numbered { place.old.number < NUMBERS_END }
     requires room { place.old.before + length line.now < 2 ^ 63 }
     ensures { place.new ≡ behind place.old line.now steps state }
 {

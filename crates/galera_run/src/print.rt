@@ -13,6 +13,9 @@ use report_text::put_answer;
 use std::alloc::Global;
 use wsrep_base::{ByteList, NoMemory};
 
+// Most lines have fewer bytes.
+const ROOM: usize = 64;
+
 /// Prints what the step on the line with this number was answered.
 pub(crate) fn print_answer<K: Sink>(
     alloc: Global,
@@ -84,7 +87,7 @@ pub(crate) fn send_printed<K: Sink>(out: &mut K) -> Result<(), RunFault>
 fn answer_line(alloc: Global, number: u64, answer: &Answer) -> Result<ByteList, NoMemory>
     ensures { IfOk result (λ text. text ≡ line_text number answer.now) }
 {
-    let mut text = ByteList::new(alloc);
+    let mut text = ByteList::from(Vec::with_capacity(alloc, ROOM)?);
     let mut buffer = Buffer::new();
     text.extend(buffer.format(number).as_bytes())?;
     text.push(b' ')?;

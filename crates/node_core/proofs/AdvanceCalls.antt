@@ -1,15 +1,19 @@
 -- Committing the next number does what the model does.
-use Rattle.std.proofs.Common.{◌≡◌, ℕ, ◌+◌, ◌≤◌, ◌<◌, Bool, true, false, cond, List, [], length, take, drop, Option, None, Some, refl, ap, sym, subst, ◌∙◌, arith}
+use Rattle.std.proofs.Common.{◌≡◌, ℕ, ◌+◌, ◌≤◌, ◌<◌, Bool, true, false, cond, List, [], length, Option, None, Some, refl, ap, sym, subst, ◌∙◌, arith}
 use Rattle.std.specs.Prelude.{◌==◌, ◌||◌, not, is_some, is_none, option_map}
 use Rattle.std.specs.Ordering.{nat_cmp}
 use Rattle.std.specs.Cmp.{nat_cmp_total}
-use Rattle.std.proofs.lemmas.Bool.{eqb-true, eq-eqb, false_from_ne_true}
+use Rattle.std.proofs.Math.Bool.{or-false}
+use Rattle.std.proofs.lemmas.Bool.{eq-eqb, ne_eqb}
 use Rattle.std.proofs.lemmas.Option.{same_Some}
 use Rattle.finite_map.proofs.Edits.{numbers, left}
 use Rattle.finite_map.specs.FiniteMap.{FiniteMap, get, insert, remove, get-remove}
+use Rattle.undo_rows.specs.RowTable.{RowTable}
+use Rattle.row_model.specs.declared.calls.Reply.{Reply}
 use Rattle.row_model.specs.declared.calls.Reply.TheVariants as reply
 use Rattle.row_model.specs.Rows.{Rows, ops_on}
 use Rattle.row_locks.specs.declared.holder.Holder.TheVariants.{Session, Unit as UnitHolder}
+use Rattle.row_locks.specs.Locks.{LockState}
 use Rattle.row_locks.specs.Alike.{HoldAlike}
 use Rattle.row_locks.proofs.AlikeLaws.{alike_between, alike-remove}
 use Rattle.wsrep_base.specs.declared.verdict.Judged.{Judged}
@@ -20,7 +24,7 @@ use Rattle.order_event.specs.declared.step.Answer.TheVariants as answer
 use Rattle.apply_unit.specs.Results.{put_all}
 use Rattle.apply_unit.specs.Task.{ModelTask}
 use Rattle.cert_meaning.specs.declared.items.CommitItem.{CommitItem}
-use Rattle.certification.specs.Certifies.{Certifies, commit_with}
+use Rattle.certification.specs.Certifies.{ModelCertification, Certifies, commit_with}
 use Rattle.certification.proofs.Ahead.{commit-is}
 use Rattle.client_trx.specs.declared.status.Status.{Status}
 use Rattle.client_trx.specs.declared.status.Status.TheVariants as status
@@ -30,19 +34,18 @@ use Rattle.node_meaning.specs.declared.progress.Stage.{Stage}
 use Rattle.node_meaning.specs.declared.progress.Stage.TheVariants as stage
 use Rattle.node_meaning.specs.Steps.{is_certified_at, is_replaying_at, is_local, is_finished, committer_of, told_committed, committed_next, is_ready, advance_step}
 use Rattle.node_meaning.specs.Units.{ops_at, unit_task, judged_at}
-use Rattle.node_meaning.proofs.EntryLaws.{less_from, some_not_none}
+use Rattle.node_meaning.proofs.EntryLaws.{some_not_none}
 use Rattle.node_meaning.proofs.LockLaws.{locks_of-remove, locks_of-remove_unit}
 use Rattle.node_meaning.proofs.UnitLaws.{rows-event, rows-committer, task-unit}
 use Rattle.node_meaning.proofs.AdvanceFacts.{committer_there, commits_at, rows-none, committer-none, not_local, unit-finished, units-local}
-use Rattle.node_parts.specs.Units.{Work, UnitTable, without, done_of, rows_of}
+use Rattle.node_parts.specs.Units.{Work, without, done_of, rows_of}
 use Rattle.node_core.specs.declared.node.NodeParts.{NodeParts}
-use Rattle.node_core.proofs.Standing.{serves_by}
-use Rattle.node_meaning.specs.Node.{is_connected}
+use Rattle.node_core.proofs.Standing.{serves_by, facts_by}
 use Rattle.node_core.specs.Tabled.{Tabled}
 use Rattle.node_core.specs.Advancing.{AreFree, results_of, TakesUnit, IsCommitted, AfterCommitter}
 use Rattle.node_core.specs.Watching.{noted, note_at}
-use Rattle.node_core.proofs.KeptFacts.{facts_advanced}
-use Rattle.node_core.specs.Stands.{Stands, Tables, AreWorked, IsWorked, HasTask, DoneOver, plain_of}
+use Rattle.node_laws.proofs.StepFacts.{advance_keeps}
+use Rattle.node_core.specs.Stands.{Stands, AreWorked, IsWorked, HasTask, DoneOver, plain_of}
 use Rattle.node_core.proofs.Tabling.{tabled-put, tabled-kept}
 use Rattle.node_core.proofs.CertifyCalls.{two_ways}
 use Rattle.node_core.proofs.UnitRows.{unit_free, unit_length, rows_left}
@@ -59,26 +62,15 @@ after_certification None number mid new is = ap (λ (n : NodeParts). n.certifica
 after_certification (Some e) number mid new is = ap (λ (n : NodeParts). n.certification) is.rest
 
 -- a transaction that commits at a number and has locks is Certified there
-certified_locks : (number : ℕ) (s : Status) → is_certified_at number s || is_replaying_at number s ≡ true → has_locks s ≡ true
+certified_locks : (number : ℕ) (s : Status)
+    → is_certified_at number s || is_replaying_at number s ≡ true → has_locks s ≡ true
     → is_certified_at number s ≡ true
-certified_locks number status.Running now locks = cc
-certified_locks number status.FragmentSent now locks = cc
-certified_locks number status.CommitSent now locks = cc
-certified_locks number (status.Certified own) now locks = or_false (number == own) now
-  where
-    or_false : (b : Bool) → b || false ≡ true → b ≡ true
-    or_false true h = refl
-    or_false false h = h
-certified_locks number status.KilledSent now locks = cc
-certified_locks number (status.Replaying own) now locks = cc
+certified_locks number (status.Certified own) now locks = sym (or-false (number == own)) ∙ now
+certified_locks number _ now locks = cc
 
 no_locks : (number : ℕ) (s : Status) → has_locks s ≡ false → is_certified_at number s ≡ false
-no_locks number status.Running none = cc
-no_locks number status.FragmentSent none = refl
-no_locks number status.CommitSent none = refl
 no_locks number (status.Certified own) none = cc
-no_locks number status.KilledSent none = refl
-no_locks number (status.Replaying own) none = refl
+no_locks number _ none = refl
 
 -- ---- a finished unit has its task
 finished_done : (order : List Event) (number : ℕ) (units : FiniteMap nat_cmp ApplyUnit) (table : FiniteMap nat_cmp Work)
@@ -103,12 +95,11 @@ module _ (order : List Event) (old : NodeParts) (stands : Stands order old) wher
   abbrev next : ℕ
   next = old.at.committed + 1
 
-  pub advance_nothing : old.at.committed ≡ old.at.certified → DoneOver order (λ n. advance_step order n) old old answer.Nothing
+  pub advance_nothing : old.at.committed ≡ old.at.certified
+      → DoneOver order (λ n. advance_step order n) old old answer.Nothing
   unfolding advance_step
   advance_nothing all = record {
-    same = sym (ap (λ b. cond {A = Answer × ModelNode} b (answer.Nothing, plain_of old)
-        (cond {A = Answer × ModelNode} (is_ready order (plain_of old) next) (answer.At next, committed_next (plain_of old) next) (answer.NotReady next, plain_of old)))
-        (eq-eqb old.at.committed old.at.certified all));
+    same = rw (eq-eqb old.at.committed old.at.certified all) refl;
     stands = stands;
   }
 
@@ -129,23 +120,18 @@ module _ (order : List Event) (old : NodeParts) (stands : Stands order old) wher
         omega (arith, long, rows)
 
   module _ (differs : old.at.committed ≡ old.at.certified → ⊥) where
-    unequal : old.at.committed == old.at.certified ≡ false
-    unequal = false_from_ne_true (old.at.committed == old.at.certified) (λ same. differs (eqb-true old.at.committed old.at.certified same))
-
     more : old.at.committed < old.at.certified
-    more = less_from old.at.committed old.at.certified stands.facts.in_order.committed_fits unequal
+    more = let fits = stands.facts.in_order.committed_fits in omega (arith, differs, fits)
 
     within : old.at.certified ≤ length order
     within = omega (arith, stands.facts.in_order.certified_fits, stands.facts.in_order.taken_fits)
 
     step_is : (b : Bool) → is_ready order (plain_of old) next ≡ b
         → advance_step order (plain_of old)
-        ≡ cond {A = Answer × ModelNode} b (answer.At next, committed_next (plain_of old) next) (answer.NotReady next, plain_of old)
+        ≡ cond {A = Answer × ModelNode} b (answer.At next, committed_next (plain_of old) next)
+        (answer.NotReady next, plain_of old)
     unfolding advance_step
-    step_is b is =
-        ap (λ b. cond {A = Answer × ModelNode} b (answer.Nothing, plain_of old)
-        (cond {A = Answer × ModelNode} (is_ready order (plain_of old) next) (answer.At next, committed_next (plain_of old) next) (answer.NotReady next, plain_of old))) unequal
-        ∙ ap (λ b. cond {A = Answer × ModelNode} b (answer.At next, committed_next (plain_of old) next) (answer.NotReady next, plain_of old)) is
+    step_is b is = rw (ne_eqb old.at.committed old.at.certified differs, is) refl
 
     -- the code's reads tell whether it is ready
     pub ready_is : is_none (commit_with next old.certification) || is_finished (get old.units.units next) || is_local old.live next
@@ -255,160 +241,104 @@ module _ (order : List Event) (old : NodeParts) (stands : Stands order old) wher
       -- how many rows may still be put
       room_left : (without old.units next).room ≤ mid.rows.spare
       room_left = two_ways (is_finished (get old.units.units next))
-          (λ finished. let few = results_few finished in omega (arith, few, takes.spare, stands.tables.room))
-          (λ waits. let none = ap length (no_results (done_of (get old.units.work next)) (takes.finished ∙ waits)) in
+          (λ finished. let few = results_few finished in
+          omega (arith, few, takes.spare, stands.tables.room))
+          (λ waits. let none = ap length (no_results (done_of (get old.units.work next))
+          (takes.finished ∙ waits)) in
           omega (arith, none, takes.spare, stands.tables.room))
 
-      module _ (parts target : NodeParts)
-          (target_is : target ≡ record old {
-            at = record old.at { committed = old.at.committed + 1 };
-            certification = target.certification;
-            units = parts.units;
-            live = parts.live;
-            waiting = parts.waiting;
-            locks = parts.locks;
-            rows = parts.rows;
-          })
-          (units : parts.units ≡ without old.units next)
-          (told : committed_next (plain_of old) next ≡ record (plain_of old) {
-            at = record old.at { committed = old.at.committed + 1 };
-            units = remove old.units.units next;
-            live = parts.live;
-            waiting = parts.waiting;
-          })
-          (locks : HoldAlike parts.locks.locks (locks_of parts.live (remove old.units.units next)))
-          (rows : Tabled (rows_at order next) parts.live parts.rows)
-          (spare : mid.rows.spare ≤ parts.rows.spare)
-          (certifies : Certifies order next old.at.certified target.certification) where
-        plain_is : plain_of target ≡ committed_next (plain_of old) next
-        plain_is =
-            ap plain_of target_is
-            ∙ ap (λ (u : UnitTable). record (plain_of old) { at = record old.at { committed = old.at.committed + 1 }; units = u.units; live = parts.live; waiting = parts.waiting }) units
-            ∙ sym told
-
-        same : (answer.At next, plain_of target) ≡ advance_step order (plain_of old)
-        same = ap (λ m. (answer.At next, m)) plain_is ∙ sym (step_is true ready)
-
-        committed_is : target.at.committed ≡ next
-        committed_is = ap (λ (m : NodeParts). m.at.committed) target_is
-
-        certified_is : target.at.certified ≡ old.at.certified
-        certified_is = ap (λ (m : NodeParts). m.at.certified) target_is
-
-        committed_tables : Tables order (record old {
-          at = record old.at { committed = old.at.committed + 1 };
-          certification = target.certification;
-          units = parts.units;
-          live = parts.live;
-          waiting = parts.waiting;
-          locks = parts.locks;
-          rows = parts.rows;
-        })
-        committed_tables = record {
-          locks = subst (λ (u : UnitTable). HoldAlike parts.locks.locks (locks_of parts.live u.units)) (sym units) locks;
-          rows = rows;
-          units = subst (AreWorked order) (sym units) units_left;
-          room = let left_room : parts.units.room ≡ (without old.units next).room = ap (λ (u : UnitTable). u.room) units in
-              omega (arith, left_room, room_left, spare);
-        }
-
-        pub advance_done : DoneOver order (λ n. advance_step order n) old target (answer.At next)
-        advance_done = record {
-          same = same;
-          stands = record {
-            inbox = ap (λ (m : NodeParts). m.inbox) target_is ∙ stands.inbox
-                ∙ sym (ap (λ (m : NodeParts). drop m.at.certified (take m.at.taken order)) target_is);
-            certification = subst (λ (p : ℕ). Certifies order p target.at.certified target.certification) (sym committed_is)
-                (subst (λ (c : ℕ). Certifies order next c target.certification) (sym certified_is) certifies);
-            tables = subst (Tables order) (sym target_is) committed_tables;
-            serves = serves_by order old target (record {
-              ring = ap (λ (m : NodeParts). m.ring) target_is;
-              since = ap (λ (m : NodeParts). m.since) target_is;
-              id = ap (λ (m : NodeParts). m.id) target_is;
-            }) (ap (λ (m : NodeParts). m.at.taken) target_is) (λ is. ap (λ (m : NodeParts). is_connected m.at.phase) (sym target_is) ∙ is) stands.serves;
-            facts = facts_advanced order old target stands (answer.At next) same;
-          };
-        }
-
       -- ---- the node after both
-      mid_base : mid ≡ record old { units = mid.units; live = mid.live; waiting = mid.waiting; locks = mid.locks; rows = mid.rows }
-      mid_base = ap (λ (m : NodeParts). record m { live = mid.live; waiting = mid.waiting }) takes.rest
+      abbrev taken : NodeParts
+      taken = record old { units = without old.units next; locks = mid.locks; rows = mid.rows }
 
-      mid_live : mid.live ≡ old.live
-      mid_live = ap (λ (m : NodeParts). m.live) takes.rest
-
-      mid_waiting : mid.waiting ≡ old.waiting
-      mid_waiting = ap (λ (m : NodeParts). m.waiting) takes.rest
+      mid_is : mid ≡ taken
+      mid_is = takes.rest
+          ∙ ap (λ units. record old { units = units; locks = mid.locks; rows = mid.rows })
+          takes.units
 
       mid_locks : HoldAlike mid.locks.locks (locks_of old.live (remove old.units.units next))
       mid_locks =
           alike_between _ _ _ _ takes.locks
-          (alike-remove old.locks.locks (locks_of old.live old.units.units) (UnitHolder next) stands.tables.locks)
+          (alike-remove old.locks.locks _ (UnitHolder next) stands.tables.locks)
           (sym (locks_of-remove_unit old.live old.units.units next))
 
-      module _ (new target : NodeParts)
-          (target_is : target ≡ record new { at = record new.at { committed = old.at.committed + 1 }; certification = target.certification })
-          (committed : Certifies order old.at.committed old.at.certified new.certification → Certifies order next old.at.certified target.certification) where
-        module _ (base : new ≡ record old { units = new.units; live = new.live; waiting = new.waiting; locks = new.locks; rows = new.rows }) where
-          whole : target ≡ record old {
-            at = record old.at { committed = old.at.committed + 1 };
-            certification = target.certification;
-            units = new.units;
-            live = new.live;
-            waiting = new.waiting;
-            locks = new.locks;
-            rows = new.rows;
-          }
-          whole = target_is ∙ ap (λ (m : NodeParts). record m { at = record m.at { committed = old.at.committed + 1 }; certification = target.certification }) base
+      module _ (new : NodeParts) (certification : ModelCertification)
+          (committed : Certifies order old.at.committed old.at.certified new.certification
+          → Certifies order next old.at.certified certification) where
+        abbrev with_next : NodeParts → NodeParts
+        with_next m = record m {
+          at = record m.at { committed = next };
+          certification = certification;
+        }
 
-          whole_certified : Certifies order next old.at.certified target.certification
-          whole_certified =
-              committed (subst (Certifies order old.at.committed old.at.certified) (sym (ap (λ (m : NodeParts). m.certification) base)) stands.certification)
+        abbrev next_of : ModelNode → ModelNode
+        next_of n = record n {
+          at = record n.at { committed = next };
+          units = remove old.units.units next;
+        }
 
-        done_none : committer_of old.live next ≡ None → new ≡ mid → DoneOver order (λ n. advance_step order n) old target (answer.At next)
-        done_none none is =
-            let base = subst (λ (m : NodeParts). m ≡ record old { units = m.units; live = m.live; waiting = m.waiting; locks = m.locks; rows = m.rows }) (sym is) mid_base in
-            let live_is : new.live ≡ old.live = ap (λ (m : NodeParts). m.live) is ∙ mid_live in
-            let waiting_is : new.waiting ≡ old.waiting = ap (λ (m : NodeParts). m.waiting) is ∙ mid_waiting in
-            advance_done new target (whole base) (ap (λ (m : NodeParts). m.units) is ∙ takes.units)
-            (ap (told_committed (record (plain_of old) { at = record old.at { committed = old.at.committed + 1 }; units = remove old.units.units next }) next) none
-            ∙ ap (λ l. record (plain_of old) { at = record old.at { committed = old.at.committed + 1 }; units = remove old.units.units next; live = l }) (sym live_is)
-            ∙ ap (λ w. record (plain_of old) { at = record old.at { committed = old.at.committed + 1 }; units = remove old.units.units next; live = new.live; waiting = w }) (sym waiting_is))
-            (alike_between _ _ _ _ (ap (λ (m : NodeParts). m.locks.locks) is) mid_locks
-            (ap (λ l. locks_of l (remove old.units.units next)) (sym live_is)))
-            (subst (λ (m : NodeParts). Tabled (rows_at order next) m.live m.rows) (sym is)
-            (subst (λ l. Tabled (rows_at order next) l mid.rows) (sym mid_live) (rows_none none)))
-            (omega (arith, ap (λ (m : NodeParts). m.rows.spare) is))
-            (whole_certified base)
+        done : (live : FiniteMap nat_cmp Live) (waiting : FiniteMap nat_cmp Reply)
+            (locks : LockState) (rows : RowTable)
+            → new ≡ record taken { live = live; waiting = waiting; locks = locks; rows = rows }
+            → committed_next (plain_of old) next
+            ≡ next_of (record (plain_of old) { live = live; waiting = waiting })
+            → HoldAlike locks.locks (locks_of live (remove old.units.units next))
+            → Tabled (rows_at order next) live rows → mid.rows.spare ≤ rows.spare
+            → DoneOver order (λ n. advance_step order n) old (with_next new) (answer.At next)
+        done live waiting locks rows new_is told alike tabled spare =
+            let after = with_next
+            (record taken { live = live; waiting = waiting; locks = locks; rows = rows }) in
+            let same : (answer.At next, plain_of after) ≡ advance_step order (plain_of old) =
+            sym (step_is true ready ∙ ap (λ m. (answer.At next, m)) told) in
+            subst (λ m. DoneOver order (λ n. advance_step order n) old (with_next m)
+            (answer.At next)) (sym new_is)
+            (record {
+              same = same;
+              stands = record {
+                inbox = stands.inbox;
+                certification = committed (subst (Certifies order old.at.committed old.at.certified)
+                    (sym (ap (λ (m : NodeParts). m.certification) new_is)) stands.certification);
+                tables = record {
+                  locks = alike;
+                  rows = tabled;
+                  units = units_left;
+                  room = omega (arith, room_left, spare);
+                };
+                serves = serves_by order old after (record { ring = refl; since = refl; id = refl })
+                    refl (λ is. is) stands.serves;
+                facts = facts_by order (λ n. advance_step order n) old after (answer.At next) stands
+                    same (advance_keeps order (plain_of old));
+              };
+            })
 
-        done_some : (s : ℕ) (t : Live) → committer_of old.live next ≡ Some (s, t) → IsCommitted s next mid new
-            → DoneOver order (λ n. advance_step order n) old target (answer.At next)
-        done_some s t one is =
-            let from_old : new ≡ record old { units = mid.units; live = new.live; waiting = new.waiting; locks = new.locks; rows = new.rows } =
-            is.rest ∙ ap (λ (m : NodeParts). record m { live = new.live; waiting = new.waiting; locks = new.locks; rows = new.rows }) takes.rest in
-            let base : new ≡ record old { units = new.units; live = new.live; waiting = new.waiting; locks = new.locks; rows = new.rows } =
-            ap (λ (m : NodeParts). record m { units = new.units }) from_old in
-            let live_is : new.live ≡ remove old.live s = is.live ∙ ap (λ l. remove l s) mid_live in
-            let waiting_is : new.waiting ≡ insert old.waiting s (reply.Committed next) =
-            is.waiting ∙ ap (λ w. insert w s (reply.Committed next)) mid_waiting in
-            advance_done new target (whole base) (ap (λ (m : NodeParts). m.units) is.rest ∙ takes.units)
-            (ap (told_committed (record (plain_of old) { at = record old.at { committed = old.at.committed + 1 }; units = remove old.units.units next }) next) one
-            ∙ ap (λ l. record (plain_of old) { at = record old.at { committed = old.at.committed + 1 }; units = remove old.units.units next; live = l; waiting = insert old.waiting s (reply.Committed next) }) (sym live_is)
-            ∙ ap (λ w. record (plain_of old) { at = record old.at { committed = old.at.committed + 1 }; units = remove old.units.units next; live = new.live; waiting = w }) (sym waiting_is))
-            (alike_between _ _ _ _ is.locks
-            (alike-remove mid.locks.locks (locks_of old.live (remove old.units.units next)) (Session s) mid_locks)
-            (sym (locks_of-remove old.live (remove old.units.units next) s)
-            ∙ ap (λ l. locks_of l (remove old.units.units next)) (sym live_is)))
-            (subst (λ l. Tabled (rows_at order next) l new.rows) (sym live_is) (rows_some s t one new is))
-            is.spare
-            (whole_certified base)
-
-        done_by : (o : Option (ℕ × Live)) → committer_of old.live next ≡ o → AfterCommitter o next mid new
-            → DoneOver order (λ n. advance_step order n) old target (answer.At next)
-        done_by None is after = done_none is after
-        done_by (Some e) is after = done_some e.0 e.1 is after
+        done_by : (o : Option (ℕ × Live)) → committer_of old.live next ≡ o
+            → AfterCommitter o next mid new
+            → DoneOver order (λ n. advance_step order n) old (with_next new) (answer.At next)
+        done_by None is after =
+            done old.live old.waiting mid.locks mid.rows (after ∙ mid_is)
+            (ap (told_committed (next_of (plain_of old)) next) is) mid_locks (rows_none is)
+            (omega arith)
+        done_by (Some e) is after =
+            let live = after.live ∙ ap (λ (m : NodeParts). remove m.live e.0) mid_is in
+            let waiting = after.waiting
+            ∙ ap (λ (m : NodeParts). insert m.waiting e.0 (reply.Committed next)) mid_is in
+            done (remove old.live e.0) (insert old.waiting e.0 (reply.Committed next)) new.locks
+            new.rows
+            (after.rest ∙ (λ i. record (mid_is i) {
+              live = live i;
+              waiting = waiting i;
+              locks = new.locks;
+              rows = new.rows;
+            }))
+            (ap (told_committed (next_of (plain_of old)) next) is)
+            (alike_between _ _ _ _ after.locks
+            (alike-remove mid.locks.locks _ (Session e.0) mid_locks)
+            (sym (locks_of-remove old.live (remove old.units.units next) e.0)))
+            (rows_some e.0 e.1 is new after) after.spare
 
         pub advance_does : AfterCommitter (committer_of mid.live next) next mid new
-            → DoneOver order (λ n. advance_step order n) old target (answer.At next)
+            → DoneOver order (λ n. advance_step order n) old (with_next new) (answer.At next)
         advance_does after =
-            done_by (committer_of old.live next) refl (subst (λ l. AfterCommitter (committer_of l next) next mid new) mid_live after)
+            done_by (committer_of old.live next) refl
+            (subst (λ (m : NodeParts). AfterCommitter (committer_of m.live next) next mid new)
+            mid_is after)

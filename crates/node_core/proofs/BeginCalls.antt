@@ -1,17 +1,14 @@
 -- A unit that begins: its entry, the rollbacks, the kills and its locks together are the model's start.
-use Rattle.std.proofs.Common.{◌≡◌, ℕ, ◌+◌, ◌≤◌, ◌<◌, ◌^◌, Bool, true, false, cond, List, [], ◌∷◌, length, take, drop, fold, refl, sym, ap, subst, ◌∙◌, arith}
+use Rattle.std.proofs.Common.{◌≡◌, ℕ, ◌+◌, ◌≤◌, ◌<◌, ◌^◌, Bool, true, false, cond, List, [], ◌∷◌, length, fold, refl, sym, ap, subst, ◌∙◌, arith}
 use Rattle.std.specs.Prelude.{Option, Some, None}
 use Rattle.std.specs.Ordering.{nat_cmp, eq_by_cmp}
 use Rattle.std.specs.Cmp.{nat_cmp_total}
-use Rattle.finite_map.proofs.Edits.{numbers, itself, Inserted, AtKey, Elsewhere, inserted}
 use Rattle.finite_map.specs.FiniteMap.{FiniteMap, empty, get, insert, len, get-insert}
 use Rattle.key_sets.specs.Keys.{Keys, with_keys}
 use Rattle.key_sets.proofs.UnionLaws.{union-symm, union-empty}
 use Rattle.order_event.specs.declared.event.Event.{Event}
 use Rattle.order_event.specs.declared.event.Message.{Message}
-use Rattle.order_event.specs.declared.step.Answer.{Answer}
 use Rattle.order_event.specs.declared.step.Answer.TheVariants as answer
-use Rattle.certification.specs.Certifies.{Certifies}
 use Rattle.write_set.specs.declared.write_set.WriteSet.{WriteSet}
 use Rattle.client_trx.specs.Live.{Live, rollback_due}
 use Rattle.row_locks.specs.declared.holder.Holder.TheVariants.{Session, Unit as UnitHolder}
@@ -19,54 +16,23 @@ use Rattle.row_locks.specs.Locks.{LockState, keys_at, touching_sessions}
 use Rattle.row_locks.specs.Alike.{HoldAlike, with_held}
 use Rattle.row_locks.proofs.AlikeLaws.{alike_between, alike-insert, touch_alike}
 use Rattle.row_locks.proofs.LockLemmas.{keys_at-insert}
-use Rattle.node_parts.specs.Units.{Work, UnitTable, added}
+use Rattle.node_parts.specs.Units.{UnitTable, added}
 use Rattle.node_meaning.specs.declared.progress.Progress.{Progress}
 use Rattle.node_meaning.specs.declared.progress.Stage.TheVariants.{Started}
 use Rattle.node_meaning.specs.Node.{ModelNode, ApplyUnit, locks_of, rows_at, send_any}
-use Rattle.node_meaning.specs.Facts.{Facts, ProgressInRange}
+use Rattle.node_meaning.specs.Facts.{ProgressInRange}
 use Rattle.node_meaning.specs.Steps.{sent_rollback, send_rollback, end_killed, kill_session}
 use Rattle.node_meaning.specs.Units.{ops_at, named_rows}
 use Rattle.node_meaning.proofs.KillOrder.{kills-touching}
 use Rattle.node_meaning.proofs.LockLaws.{keys_of_unit, keys_at-session, keys_at-unit}
 use Rattle.node_laws.proofs.UnitMoves.{CanTakeBack}
+use Rattle.node_laws.proofs.StepFacts.{started_keeps}
 use Rattle.node_core.specs.declared.node.NodeParts.{NodeParts}
-use Rattle.node_core.proofs.Standing.{serves_by, rings_kept, unchanged_ring}
-use Rattle.node_core.specs.Stands.{KeepsRing}
-use Rattle.node_meaning.specs.Node.{is_connected}
+use Rattle.node_core.proofs.Standing.{done_by, worked_put, unchanged_ring}
 use Rattle.node_core.specs.Tabled.{Tabled}
-use Rattle.node_core.proofs.KeptFacts.{facts_started}
-use Rattle.node_core.specs.Stands.{AreWorked, IsWorked, DoneOver, Unchanged, plain_of}
+use Rattle.node_core.specs.Stands.{AreWorked, DoneOver, Unchanged, plain_of}
 use Rattle.node_core.specs.Starting.{CanStart, Aborts, unit_started, with_sent, entered}
 use Rattle.node_core.proofs.Tabling.{same_tabled}
-
--- one more unit is worked on
-module _ (order : List Event) (table : UnitTable) (number : ℕ) (keys : Keys) (rows : ℕ) (worked : AreWorked order table)
-    (count : rows ≡ length (named_rows (ops_at order number))) where
-  abbrev new_unit : ApplyUnit
-  new_unit = record { stage = Started; keys = keys }
-
-  abbrev new_work : Work
-  new_work = record { rows = rows; done = None }
-
-  each : (q : ℕ) (v : ApplyUnit) → Inserted numbers table.units number new_unit q v
-      → (work : Work) × (get (insert table.work number new_work) q ≡ Some work) × IsWorked order q v work
-  each q v (AtKey key value) = (
-    new_work,
-    get-insert nat_cmp_total table.work number new_work q
-        ∙ ap (λ k. cond (eq_by_cmp nat_cmp k number) (Some new_work) (get table.work q)) key
-        ∙ ap (λ b. cond b (Some new_work) (get table.work q)) (itself numbers number),
-    subst (λ (x : ℕ). IsWorked order x v new_work) (sym key)
-        (subst (λ (x : ApplyUnit). IsWorked order number x new_work) (sym value) (record { rows = count; task = refl })),
-  )
-  each q v (Elsewhere differs elsewhere) =
-      let other = worked.worked q v elsewhere in (
-        other.0,
-        get-insert nat_cmp_total table.work number new_work q ∙ ap (λ b. cond b (Some new_work) (get table.work q)) differs ∙ other.1,
-        other.2,
-      )
-
-  worked_added : AreWorked order (added table number keys rows)
-  worked_added = record { worked = λ q v h. each q v (inserted numbers table.units number new_unit q v h) }
 
 -- ---- the keys of a unit that begins
 module _ (live : FiniteMap nat_cmp Live) (older : FiniteMap nat_cmp ApplyUnit) (number : ℕ) (unit : ApplyUnit) where
@@ -86,15 +52,15 @@ module _ (live : FiniteMap nat_cmp Live) (older : FiniteMap nat_cmp ApplyUnit) (
 
 -- ---- rollbacks are sent whatever the units are
 module _ (units : FiniteMap nat_cmp ApplyUnit) where
-  any_beside : (n : ModelNode) (o : Option WriteSet)
-      → send_any (record n { units = units }) o ≡ record (send_any n o) { units = units }
-  any_beside n None = refl
-  any_beside n (Some w) = refl
-
   session_beside : (n : ModelNode) (o : Option Live)
       → sent_rollback (record n { units = units }) o ≡ record (sent_rollback n o) { units = units }
   session_beside n None = refl
-  session_beside n (Some t) = any_beside n (rollback_due t n.at.serial n.at.committed)
+  session_beside n (Some t) = by (rollback_due t n.at.serial n.at.committed)
+    where
+      by : (o : Option WriteSet)
+          → send_any (record n { units = units }) o ≡ record (send_any n o) { units = units }
+      by None = refl
+      by (Some w) = refl
 
   sends_beside : (sessions : List ℕ) (n : ModelNode)
       → fold send_rollback (record n { units = units }) sessions
@@ -105,8 +71,9 @@ module _ (units : FiniteMap nat_cmp ApplyUnit) where
       ∙ sends_beside vs (send_rollback n v)
 
 -- ---- the call
-module _ (order : List Event) (old mid killed : NodeParts) (number : ℕ) (keys : Keys) (rows : ℕ) (aborted : List ℕ) (sent : List Message)
-    (can : CanStart order old number keys) (unchanged : Unchanged old mid) (same_units : mid.units ≡ old.units)
+module _ (order : List Event) (old mid killed : NodeParts) (number : ℕ) (keys : Keys) (rows : ℕ)
+    (aborted : List ℕ) (sent : List Message) (can : CanStart order old number keys)
+    (unchanged : Unchanged old mid) (same_units : mid.units ≡ old.units)
     (sends : fold send_rollback (plain_of old) aborted ≡ with_sent (plain_of old) sent)
     (victims : aborted ≡ touching_sessions old.locks.locks keys)
     (kills : Aborts (λ n. fold (end_killed number) n aborted) (entered mid number keys rows sent) killed) where
@@ -116,50 +83,38 @@ module _ (order : List Event) (old mid killed : NodeParts) (number : ℕ) (keys 
   abbrev unit : ApplyUnit
   unit = record { stage = Started; keys = keys }
 
-  at_is : killed.at ≡ record old.at { serial = old.at.serial + length sent }
-  at_is = kills.at ∙ ap (λ (m : ModelNode). (with_sent m sent).at) unchanged.plain
-
-  entered_ring : KeepsRing old (entered mid number keys rows sent)
-  entered_ring = let same = unchanged_ring old mid unchanged in record { ring = same.ring; since = same.since; id = same.id }
+  -- with the unit
+  abbrev begun : ModelNode → ModelNode
+  begun m = record m { units = insert n.units number unit }
 
   live_is : mid.live ≡ old.live
   live_is = ap (λ (m : ModelNode). m.live) unchanged.plain
 
-  units_is : added mid.units number keys rows ≡ added old.units number keys rows
-  units_is = ap (λ (t : UnitTable). added t number keys rows) same_units
-
-  abbrev units_now : FiniteMap nat_cmp ApplyUnit
-  units_now = insert n.units number unit
-
-  begun : plain_of (entered mid number keys rows sent) ≡ record (with_sent n sent) { units = units_now }
-  begun = ap (λ (m : ModelNode). record (with_sent m sent) { units = insert m.units number unit }) unchanged.plain
-
-  aborted_is : aborted ≡ touching_sessions (locks_of old.live old.units.units) keys
-  aborted_is = victims ∙ touch_alike old.locks.locks (locks_of old.live old.units.units) can.stands.tables.locks keys
-
   -- all rollbacks first, and then the ends
   kills_are : (vs : List ℕ) → aborted ≡ vs
-      → fold (kill_session number) (record n { units = units_now }) vs
-      ≡ fold (end_killed number) (fold send_rollback (record n { units = units_now }) vs) vs
-      → fold (end_killed number) (record (with_sent n sent) { units = units_now }) aborted
-      ≡ fold (kill_session number) (record n { units = units_now }) vs
+      → fold (kill_session number) (begun n) vs
+      ≡ fold (end_killed number) (fold send_rollback (begun n) vs) vs
+      → fold (end_killed number) (begun (with_sent n sent)) aborted
+      ≡ fold (kill_session number) (begun n) vs
   kills_are vs is both =
-      ap (fold (end_killed number) (record (with_sent n sent) { units = units_now })) is
-      ∙ sym (both ∙ ap (λ m. fold (end_killed number) m vs) (sends_beside units_now vs n
-      ∙ ap (λ (m : ModelNode). record m { units = units_now }) (ap (fold send_rollback n) (sym is) ∙ sends)))
+      ap (fold (end_killed number) (begun (with_sent n sent))) is
+      ∙ sym (both ∙ ap (λ m. fold (end_killed number) m vs) (sends_beside (begun n).units vs n
+      ∙ ap begun (ap (fold send_rollback n) (sym is) ∙ sends)))
 
-  same : ◌≡◌ {A = Answer × ModelNode} (answer.Started number aborted, plain_of killed) (unit_started number keys n)
+  same : (answer.Started number aborted, plain_of killed) ≡ unit_started number keys n
   same =
-      let vs = touching_sessions (locks_of old.live old.units.units) keys in
-      let ends = kills.plain ∙ ap (λ (m : ModelNode). fold (end_killed number) m aborted) begun
-      ∙ kills_are vs aborted_is (kills-touching number old.live old.units.units keys (record n { units = units_now })) in
-      λ i. (answer.Started number (aborted_is i), ends i)
-
-  facts : CanTakeBack n → Facts order (plain_of killed)
-  facts back = facts_started order old killed can.stands number keys can back (answer.Started number aborted) same
+      let units = old.units.units in
+      let is = victims ∙ touch_alike old.locks.locks _ can.stands.tables.locks keys in
+      let ends = kills.plain
+      ∙ ap (λ (m : ModelNode). fold (end_killed number) (record (with_sent m sent) {
+        units = insert m.units number unit;
+      }) aborted) unchanged.plain
+      ∙ kills_are (touching_sessions (locks_of old.live units) keys) is
+      (kills-touching number old.live units keys (begun n)) in
+      λ i. (answer.Started number (is i), ends i)
 
   killed_units : killed.units ≡ added old.units number keys rows
-  killed_units = kills.units ∙ units_is
+  killed_units = kills.units ∙ ap (λ (t : UnitTable). added t number keys rows) same_units
 
   killed_locks : HoldAlike killed.locks.locks (locks_of killed.live old.units.units)
   killed_locks =
@@ -167,51 +122,59 @@ module _ (order : List Event) (old mid killed : NodeParts) (number : ℕ) (keys 
       (alike_between _ _ _ _ unchanged.locks can.stands.tables.locks
       (ap (λ (m : FiniteMap nat_cmp Live). locks_of m old.units.units) (sym live_is)))
 
-  module _ (locks : LockState) (held : HoldAlike locks.locks (with_held killed.locks.locks (UnitHolder number) keys.entries))
-      (count : rows ≡ length (named_rows (ops_at order number))) (room : mid.units.room + rows ≤ mid.rows.spare) (back : CanTakeBack n) where
+  module _ (locks : LockState)
+      (held : HoldAlike locks.locks (with_held killed.locks.locks (UnitHolder number) keys.entries))
+      (count : rows ≡ length (named_rows (ops_at order number)))
+      (room : mid.units.room + rows ≤ mid.rows.spare) (back : CanTakeBack n) where
     its_keys : with_keys (keys_at killed.locks.locks (UnitHolder number)) keys.entries ≡ keys
     its_keys =
         ap (λ (had : Keys). with_keys had keys.entries)
-        (killed_locks (UnitHolder number) ∙ keys_at-unit killed.live old.units.units number ∙ ap keys_of_unit can.fresh)
+        (killed_locks (UnitHolder number) ∙ keys_at-unit killed.live old.units.units number
+        ∙ ap keys_of_unit can.fresh)
         ∙ union-symm empty keys ∙ union-empty keys
 
     locks_are : HoldAlike locks.locks (locks_of killed.live killed.units.units)
     locks_are h =
         held h
-        ∙ alike-insert killed.locks.locks (locks_of killed.live old.units.units) (UnitHolder number) _ _ its_keys killed_locks h
+        ∙ alike-insert killed.locks.locks _ (UnitHolder number) _ _ its_keys killed_locks h
         ∙ unit_begun killed.live old.units.units number unit h
         ∙ ap (λ (t : UnitTable). keys_at (locks_of killed.live t.units) h) (sym killed_units)
 
-    rows_are : Tabled (rows_at order killed.at.committed) killed.live killed.rows
-    rows_are =
-        subst (λ (a : Progress). Tabled (rows_at order a.committed) killed.live killed.rows) (sym at_is)
-        (kills.rows (rows_at order old.at.committed)
-        (subst (λ (m : FiniteMap nat_cmp Live). Tabled (rows_at order old.at.committed) m mid.rows) (sym live_is)
-        (same_tabled (rows_at order old.at.committed) old.live old.rows mid.rows can.stands.tables.rows unchanged.committed unchanged.changes)))
-
-    room_is : killed.units.room ≡ mid.units.room + rows
-    room_is = ap (λ (t : UnitTable). t.room) kills.units
-
-    pub begin_done : DoneOver order (unit_started number keys) old (record killed { locks = locks }) (answer.Started number aborted)
-    begin_done = record {
-      same = same;
-      stands = record {
-        inbox = kills.inbox ∙ unchanged.inbox ∙ can.stands.inbox
-            ∙ ap (λ (a : Progress). drop a.certified (take a.taken order)) (sym at_is);
-        certification = subst (λ (a : Progress). Certifies order a.committed a.certified killed.certification) (sym at_is)
-            (subst (Certifies order old.at.committed old.at.certified) (sym (kills.certification ∙ unchanged.certification)) can.stands.certification);
-        tables = record {
+    pub begin_done : DoneOver order (unit_started number keys) old (record killed { locks = locks })
+        (answer.Started number aborted)
+    begin_done =
+        let at = kills.at ∙ ap (λ (m : ModelNode). (with_sent m sent).at) unchanged.plain in
+        let ring = unchanged_ring old mid unchanged in
+        let base = rows_at order old.at.committed in
+        let grown = ap (λ (t : UnitTable). t.room) kills.units in
+        done_by order (unit_started number keys) old (record killed { locks = locks })
+        (answer.Started number aborted) can.stands same
+        (λ f. started_keeps order n number (record {
+          number = can.label;
+          trx = can.trx;
+          keys = keys;
+        }) back f (record { above = can.above; within = can.within; is_commit = can.is_commit })
+        can.fresh can.remote can.clear)
+        (old.at.serial + length sent) old.at.begin at
+        (record {
+          ring = kills.ring.ring ∙ ring.ring;
+          since = kills.ring.since ∙ ring.since;
+          id = kills.ring.id ∙ ring.id;
+        })
+        (kills.inbox ∙ unchanged.inbox) (kills.certification ∙ unchanged.certification)
+        (record {
           locks = locks_are;
-          rows = rows_are;
-          units = subst (AreWorked order) (sym killed_units) (worked_added order old.units number keys rows can.stands.tables.units count);
-          room = omega (arith, room_is, room, kills.room);
-        };
-        serves = serves_by order old (record killed { locks = locks })
-            (rings_kept old (entered mid number keys rows sent) (record killed { locks = locks }) entered_ring (record { ring = kills.ring.ring; since = kills.ring.since; id = kills.ring.id }))
-            (ap (λ (a : Progress). a.taken) at_is) (λ is. ap (λ (a : Progress). is_connected a.phase) (sym at_is) ∙ is) can.stands.serves;
-        facts = facts back;
-      };
-    }
+          rows = subst (λ (a : Progress). Tabled (rows_at order a.committed) killed.live
+              killed.rows) (sym at)
+              (kills.rows base (subst (λ m. Tabled base m mid.rows) (sym live_is)
+              (same_tabled base old.live old.rows mid.rows can.stands.tables.rows
+              unchanged.committed unchanged.changes)));
+          units = subst (AreWorked order) (sym killed_units)
+              (worked_put order old.units number unit (record { rows = rows; done = None })
+              (old.units.room + rows) can.stands.tables.units
+              (record { rows = count; task = refl }));
+          room = omega (arith, grown, room, kills.room);
+        })
 
 -- the node's numbers are in range, also with a rollback of each live transaction
 pub can_take_back : (node : NodeParts) → ProgressInRange node.at → len node.live ≤ 33 → node.at.serial < 2 ^ 63 → CanTakeBack (plain_of node)

@@ -1,5 +1,5 @@
 -- Certifying the next event does what the model does.
-use Rattle.std.proofs.Common.{◌≡◌, ℕ, ◌≤◌, Bool, true, false, cond, List, Option, None, Some, refl, ap, sym, subst, ◌∙◌, arith, true≢false}
+use Rattle.std.proofs.Common.{◌≡◌, ℕ, ◌≤◌, Bool, true, false, cond, Option, None, Some, refl, ap, sym, subst, ◌∙◌}
 use Rattle.std.specs.Prelude.{◌==◌, option_map}
 use Rattle.std.specs.Ordering.{nat_cmp}
 use Rattle.std.proofs.lemmas.Option.{same_Some}
@@ -10,23 +10,23 @@ use Rattle.wsrep_base.specs.declared.verdict.Verdict.TheVariants as verdict
 use Rattle.row_model.specs.declared.calls.Reply.{Reply}
 use Rattle.row_locks.specs.declared.holder.Holder.TheVariants.{Session}
 use Rattle.row_locks.specs.Alike.{HoldAlike}
-use Rattle.row_locks.proofs.AlikeLaws.{alike_between, alike-remove}
+use Rattle.row_locks.specs.Locks.{LockState}
 use Rattle.client_trx.specs.declared.status.Status.{Status}
 use Rattle.client_trx.specs.declared.status.Status.TheVariants as status
 use Rattle.client_trx.specs.declared.status.Outcome.{Outcome}
 use Rattle.client_trx.specs.declared.status.Outcome.TheVariants.{Lives, Ends}
-use Rattle.client_trx.specs.Live.{Live, has_locks, is_sent, with_status, passed_status, judged_by}
-use Rattle.undo_rows.specs.RowTable.{without}
-use Rattle.node_meaning.specs.Node.{ModelNode, locks_of, rows_at}
+use Rattle.client_trx.specs.Live.{Live, has_locks, is_sent, passed_status, judged_by}
+use Rattle.undo_rows.specs.RowTable.{RowTable, without}
+use Rattle.node_meaning.specs.Node.{ModelNode, rows_at, end_live}
 use Rattle.node_meaning.specs.Steps.{told, told_verdict, session_of}
 use Rattle.node_meaning.proofs.EntryLaws.{entry_found, some_not_none}
-use Rattle.node_meaning.proofs.LockLaws.{locks_of-same, locks_of-remove}
-use Rattle.order_event.specs.declared.event.Event.{Event}
+use Rattle.node_meaning.proofs.LockLaws.{locks_of-same}
 use Rattle.node_core.specs.declared.node.NodeParts.{NodeParts}
 use Rattle.node_core.proofs.Standing.{ring_by}
-use Rattle.node_core.specs.Tabled.{Tabled, made_by}
-use Rattle.node_core.specs.Stands.{Tables, Moves, AreWorked, plain_of}
-use Rattle.node_core.proofs.Tabling.{made-alike, put_at, ended_at, tabled-cleared, tabled-left}
+use Rattle.node_core.proofs.ClientCalls.{moves_ended}
+use Rattle.node_core.specs.Tabled.{made_by}
+use Rattle.node_core.specs.Stands.{Moves, plain_of}
+use Rattle.node_core.proofs.Tabling.{made-alike, put_at, tabled-left}
 
 -- ---- what a verdict leaves of a transaction that lives on
 record Same (t u : Live) : Type 0 where
@@ -34,47 +34,25 @@ record Same (t u : Live) : Type 0 where
   keys : u.keys ≡ t.keys
   ops : u.ops ≡ t.ops
 
+pub not_ended : (u t : Live) (r : Reply) → ◌≡◌ {A = Outcome × Live} (Lives, u) (Ends r, t) → ⊥
+not_ended u t r is = let outcome = ap (λ (r : Outcome × Live). r.0) is in cc
+
 itself : (t u : Live) → u ≡ t → Same t u
-itself t u is = record {
-  locks = ap (λ (l : Live). has_locks l.status) is;
-  keys = ap (λ (l : Live). l.keys) is;
-  ops = ap (λ (l : Live). l.ops) is;
-}
+itself t u is = rw is (record { locks = refl; keys = refl; ops = refl })
 
-passed_locks : (number : ℕ) (s : Status) → is_sent s ≡ true → has_locks (passed_status number s) ≡ has_locks s
-passed_locks number status.Running waits = absurd cc
+passed_locks : (number : ℕ) (s : Status) → is_sent s ≡ true
+    → has_locks (passed_status number s) ≡ has_locks s
 passed_locks number status.FragmentSent waits = refl
-passed_locks number status.CommitSent waits = refl
-passed_locks number (status.Certified own) waits = absurd cc
-passed_locks number status.KilledSent waits = refl
-passed_locks number (status.Replaying own) waits = absurd cc
+passed_locks number _ waits = cc
 
-second : {A B : Type 0} (p q : A × B) → p ≡ q → p.1 ≡ q.1
-second {A = A} {B = B} p q e = ap (λ (x : A × B). x.1) e
-
-abbrev is_lives : Outcome → Bool
-is_lives Lives = true
-is_lives (Ends reply) = false
-
-not_ended : (p q : Outcome × Live) → p ≡ q → is_lives p.0 ≡ true → is_lives q.0 ≡ false → ⊥
-not_ended p q e one other = true≢false (sym one ∙ ap (λ (x : Outcome × Live). is_lives x.0) e ∙ other)
-
-judged_same : (number : ℕ) (v : Verdict) (t u : Live) → is_sent t.status ≡ true → (Lives, u) ≡ judged_by number v t → Same t u
+judged_same : (number : ℕ) (v : Verdict) (t u : Live) → is_sent t.status ≡ true
+    → (Lives, u) ≡ judged_by number v t → Same t u
 judged_same number verdict.Pass t u waits is =
-    let same : u ≡ with_status t (passed_status number t.status) = second _ _ is in
-    record {
-      locks = ap (λ (l : Live). has_locks l.status) same ∙ passed_locks number t.status waits;
-      keys = ap (λ (l : Live). l.keys) same;
-      ops = ap (λ (l : Live). l.ops) same;
-    }
-judged_same number verdict.Malformed t u waits is = itself t u (second _ _ is)
-judged_same number verdict.Stranger t u waits is = itself t u (second _ _ is)
-judged_same number verdict.Repeat t u waits is = itself t u (second _ _ is)
-judged_same number verdict.Future t u waits is = itself t u (second _ _ is)
-judged_same number verdict.Stale t u waits is = itself t u (second _ _ is)
-judged_same number verdict.Broken t u waits is = itself t u (second _ _ is)
-judged_same number (verdict.Conflict n) t u waits is = absurd (not_ended _ _ is refl refl)
-judged_same number (verdict.Held n) t u waits is = absurd (not_ended _ _ is refl refl)
+    let same = ap (λ (r : Outcome × Live). r.1) is in
+    rw same (record { locks = passed_locks number t.status waits; keys = refl; ops = refl })
+judged_same number (verdict.Conflict n) t u waits is = absurd (not_ended u _ _ is)
+judged_same number (verdict.Held n) t u waits is = absurd (not_ended u _ _ is)
+judged_same number _ t u waits is = itself t u (ap (λ (r : Outcome × Live). r.1) is)
 
 -- ---- the verdict
 pub two_ways : {P : Type 0} (b : Bool) → (b ≡ true → P) → (b ≡ false → P) → P
@@ -129,59 +107,52 @@ module _ (old : NodeParts) (begin number : ℕ) (v : Verdict) where
 
       module _ (sent : is_sent t.status ≡ true) where
         -- it lives on
-        pub tell_lives : (u : Live) → (Lives, u) ≡ judged_by number v t → (live : FiniteMap nat_cmp Live)
-            → live ≡ insert (remove old.live session) session u → Moves tells old (record old { live = live })
+        pub tell_lives : (u : Live) → (Lives, u) ≡ judged_by number v t
+            → (live : FiniteMap nat_cmp Live) → live ≡ insert (remove old.live session) session u
+            → Moves tells old (record old { live = live })
         tell_lives u judged live put =
-            let now : live ≡ insert old.live session u = put ∙ insert-remove numbers old.live session u in
             let same = judged_same number v t u sent judged in
-            subst (λ l. Moves tells old (record old { live = l })) (sym now) (record {
+            rw (put, insert-remove numbers old.live session u) (record {
               plain = sym (by_status true sent ∙ ap (told (plain_of old) session) (sym judged));
               inbox = refl;
               ring = record { ring = refl; since = refl; id = refl };
               certification = refl;
-              tables = λ order tables. record {
-                locks = subst (HoldAlike old.locks.locks) (sym (locks_of-same old.live old.units.units session t u is same.locks same.keys)) tables.locks;
-                rows = tabled-left (rows_at order old.at.committed) old.live old.rows old.rows tables.rows (insert old.live session u) session (Some u)
-                    (put_at old.live session u) (λ id. made-alike (rows_at order old.at.committed) id u t same.locks same.ops
-                    ∙ ap (made_by (rows_at order old.at.committed) id) (sym is)) refl refl;
-                units = tables.units;
-                room = tables.room;
-              };
+              tables = λ order tables.
+                  let base = rows_at order old.at.committed in record {
+                    locks = subst (HoldAlike old.locks.locks)
+                        (sym (locks_of-same old.live old.units.units session t u is same.locks
+                        same.keys)) tables.locks;
+                    rows = tabled-left base old.live old.rows old.rows tables.rows
+                        (insert old.live session u) session (Some u) (put_at old.live session u)
+                        (λ id. made-alike base id u t same.locks same.ops
+                        ∙ ap (made_by base id) (sym is)) refl refl;
+                    units = tables.units;
+                    room = tables.room;
+                  };
             })
 
         -- it ends
-        pub tell_ends : (reply : Reply) (u : Live) → (Ends reply, u) ≡ judged_by number v t → (new : NodeParts)
-            → new ≡ record old { live = new.live; waiting = new.waiting; locks = new.locks; rows = new.rows }
-            → new.live ≡ remove old.live session → new.waiting ≡ insert old.waiting session reply
-            → new.locks.locks ≡ remove old.locks.locks (Session session) → new.rows.committed ≡ old.rows.committed
-            → new.rows.changes ≡ without old.rows.changes session → old.rows.spare ≤ new.rows.spare → Moves tells old new
-        tell_ends reply u judged new is_new live waiting locks committed changes spare = record {
-          plain = sym (by_status true sent ∙ ap (told (plain_of old) session) (sym judged)
-              ∙ sym (ap plain_of is_new ∙ ap (λ l. record (plain_of old) { live = l; waiting = new.waiting }) live
-              ∙ ap (λ w. record (plain_of old) { live = remove old.live session; waiting = w }) waiting));
-          inbox = ap (λ (n : NodeParts). n.inbox) is_new;
-          ring = record {
-            ring = ap (λ (n : NodeParts). n.ring) is_new;
-            since = ap (λ (n : NodeParts). n.since) is_new;
-            id = ap (λ (n : NodeParts). n.id) is_new;
-          };
-          certification = ap (λ (n : NodeParts). n.certification) is_new;
-          tables = λ order tables. ended order tables;
-        }
-          where
-            units_is : new.units ≡ old.units
-            units_is = ap (λ (n : NodeParts). n.units) is_new
-
-            ended : (order : List Event) → Tables order old → Tables order new
-            ended order tables = record {
-              locks = alike_between _ _ _ _ locks
-                  (alike-remove old.locks.locks (locks_of old.live old.units.units) (Session session) tables.locks)
-                  (sym (locks_of-remove old.live old.units.units session)
-                  ∙ ap (λ l. locks_of l old.units.units) (sym live) ∙ ap (λ u. locks_of new.live u.units) (sym units_is));
-              rows = subst (λ l. Tabled (rows_at order new.at.committed) l new.rows) (sym live)
-                  (subst (λ (n : ℕ). Tabled (rows_at order n) (remove old.live session) new.rows) (sym (ap (λ (n : NodeParts). n.at.committed) is_new))
-                  (tabled-cleared (rows_at order old.at.committed) old.live old.rows new.rows tables.rows (remove old.live session) session None
-                  (ended_at old.live session) (λ id. refl) committed changes));
-              units = subst (λ u. AreWorked order u) (sym units_is) tables.units;
-              room = omega (arith, tables.room, spare, ap (λ (n : NodeParts). n.units.room) is_new);
+        pub tell_ends : (reply : Reply) (u : Live) → (Ends reply, u) ≡ judged_by number v t
+            → (live : FiniteMap nat_cmp Live) (waiting : FiniteMap nat_cmp Reply)
+            (locks : LockState) (rows : RowTable) → live ≡ remove old.live session
+            → waiting ≡ insert old.waiting session reply
+            → locks.locks ≡ remove old.locks.locks (Session session)
+            → rows.committed ≡ old.rows.committed → rows.changes ≡ without old.rows.changes session
+            → old.rows.spare ≤ rows.spare → Moves tells old (record old {
+              live = live;
+              waiting = waiting;
+              locks = locks;
+              rows = rows;
+            })
+        tell_ends reply u judged live waiting locks rows gone said free committed changes spare =
+            let ended = moves_ended old session live locks rows gone free committed changes spare in
+            record {
+              plain = ap (λ (n : ModelNode). record n { waiting = waiting }) ended.plain
+                  ∙ ap (λ w. record (end_live (plain_of old) session) { waiting = w }) said
+                  ∙ ap (told (plain_of old) session) judged ∙ sym (by_status true sent);
+              inbox = refl;
+              ring = record { ring = refl; since = refl; id = refl };
+              certification = refl;
+              tables = λ order tables. let t = ended.tables order tables in
+                  record { locks = t.locks; rows = t.rows; units = t.units; room = t.room };
             }

@@ -1,7 +1,8 @@
 -- One certified event: the node after it stands.
-use Rattle.std.proofs.Common.{◌≡◌, ℕ, ◌+◌, ◌≤◌, ◌<◌, ◌^◌, Bool, true, false, cond, List, take, drop, Option, None, Some, refl, ap, sym, subst, ◌∙◌, arith}
+use Rattle.std.proofs.Common.{rules, ◌≡◌, ℕ, ◌+◌, ◌≤◌, ◌<◌, ◌^◌, Bool, true, false, cond, List, take, drop, Option, None, Some, refl, ap, sym, subst, ◌∙◌, arith}
 use Rattle.std.specs.Prelude.{◌==◌, slice_get}
-use Rattle.std.proofs.lemmas.Bool.{eqb-true, eq-eqb, false_from_ne_true}
+use Rattle.std.proofs.lemmas.Bool.{eq-eqb, ne_eqb}
+use Rattle.std.proofs.lemmas.Option.{none-some}
 use Rattle.wsrep_base.specs.declared.verdict.Verdict.{Verdict}
 use Rattle.wsrep_base.specs.declared.verdict.Judged.{Judged}
 use Rattle.order_event.specs.declared.event.Event.{Event}
@@ -9,76 +10,76 @@ use Rattle.order_event.specs.declared.event.Event.TheVariants as event
 use Rattle.order_event.specs.declared.step.Answer.{Answer}
 use Rattle.order_event.specs.declared.step.Answer.TheVariants as answer
 use Rattle.write_set.specs.declared.write_set.WriteSet.{WriteSet}
-use Rattle.cert_meaning.specs.Fold.{set_in}
+use Rattle.write_set.specs.Reading.{decoded}
 use Rattle.cert_meaning.proofs.FoldLaws.{some_there}
 use Rattle.client_trx.specs.declared.status.Outcome.{Outcome}
 use Rattle.client_trx.specs.declared.status.Outcome.TheVariants.{Lives, Ends}
 use Rattle.client_trx.specs.Live.{Live, is_sent, judged_by}
-use Rattle.certification.specs.Certifies.{Certifies, CanCertify, IsNext}
-use Rattle.node_meaning.specs.Node.{ModelNode}
+use Rattle.certification.specs.Certifies.{ModelCertification, Certifies, CanCertify, IsNext}
+use Rattle.node_meaning.specs.declared.progress.Progress.{Progress}
+use Rattle.node_meaning.specs.Node.{ModelNode, is_connected}
 use Rattle.node_meaning.specs.Steps.{told, told_own, told_verdict, told_event, session_of, verdict_of, certify_event, certify_step}
-use Rattle.node_meaning.proofs.EntryLaws.{less_from, some_not_none}
 use Rattle.node_core.specs.declared.node.NodeParts.{NodeParts}
-use Rattle.node_core.specs.Stands.{KeepsRing}
-use Rattle.node_core.proofs.Standing.{serves_by, rings_kept}
-use Rattle.node_meaning.specs.Node.{is_connected}
-use Rattle.node_core.specs.Certifying.{is_write_of, told_if}
-use Rattle.node_core.proofs.KeptFacts.{facts_certified}
-use Rattle.node_core.specs.Stands.{Stands, Tables, Moves, DoneOver, plain_of}
-use Rattle.node_core.proofs.Standing.{first_of, dropped_one}
+use Rattle.node_core.specs.Certifying.{is_write_of, told_begun, told_if}
+use Rattle.certification.specs.Indexed.{begin_in, begin_of}
+use Rattle.node_laws.proofs.StepFacts.{certify_keeps}
+use Rattle.node_core.specs.Stands.{Stands, Moves, DoneOver, plain_of}
+use Rattle.node_core.proofs.Standing.{first_of, dropped_one, serves_by, facts_by}
 
 -- ---- a verdict leaves the progress
-told_at : (n : ModelNode) (session : ℕ) (o : Outcome × Live) → (told n session o).at ≡ n.at
-told_at n session (Lives, t) = refl
-told_at n session (Ends reply, t) = refl
-
-where_at : (b : Bool) (m n : ModelNode) → m.at ≡ n.at → (cond b m n).at ≡ n.at
-where_at true m n same = same
-where_at false m n same = refl
-
-verdict_at : (n : ModelNode) (number : ℕ) (v : Verdict) (o : Option (ℕ × Live)) → (told_verdict n number v o).at ≡ n.at
+verdict_at : (n : ModelNode) (number : ℕ) (v : Verdict) (o : Option (ℕ × Live))
+    → (told_verdict n number v o).at ≡ n.at
 verdict_at n number v None = refl
-verdict_at n number v (Some e) = where_at (is_sent e.1.status) (told n e.0 (judged_by number v e.1)) n (told_at n e.0 (judged_by number v e.1))
+verdict_at n number v (Some e) = by (is_sent e.1.status) (judged_by number v e.1)
+  where
+    by : (b : Bool) (o : Outcome × Live) → (cond b (told n e.0 o) n).at ≡ n.at
+    by true (Lives, t) = refl
+    by true (Ends reply, t) = refl
+    by false o = refl
 
-own_at : (n : ModelNode) (number : ℕ) (v : Verdict) (set : Option WriteSet) → (told_own n number v set).at ≡ n.at
-own_at n number v None = refl
-own_at n number v (Some w) = verdict_at n number v (session_of n.live w.begin)
+if_at : (own : Bool) (begin : Option ℕ) (number : ℕ) (v : Verdict) (n : ModelNode)
+    → (told_if own begin number v n).at ≡ n.at
+if_at true None number v n = refl
+if_at true (Some begin) number v n = verdict_at n number v (session_of n.live begin)
+if_at false begin number v n = refl
 
-if_at : (own : Bool) (set : Option WriteSet) (number : ℕ) (v : Verdict) (n : ModelNode) → (told_if own set number v n).at ≡ n.at
-if_at own set number v n = where_at own (told_own n number v set) n (own_at n number v set)
+own_is : (n : ModelNode) (number : ℕ) (v : Verdict) (set : Option WriteSet)
+    → told_own n number v set ≡ told_begun n number v (begin_of set)
+own_is n number v None = refl
+own_is n number v (Some w) = refl
 
 event_is : (n : ModelNode) (number : ℕ) (v : Verdict) (e : Event)
-    → told_event n number v e ≡ told_if (is_write_of e n.at.member) (set_in e) number v n
-event_is n number v (event.Write member body) = refl
+    → told_event n number v e ≡ told_if (is_write_of e n.at.member) (begin_in e) number v n
+event_is n number v (event.Write member body) =
+    ap (λ m. cond (member == n.at.member) m n) (own_is n number v (decoded body))
 event_is n number v (event.View version members) = refl
 event_is n number v (event.Report member reported) = refl
 
 -- ---- the step
 module _ (order : List Event) (old : NodeParts) (stands : Stands order old) where
   -- all that was taken is certified
-  pub certify_nothing : old.at.certified ≡ old.at.taken → DoneOver order (λ n. certify_step order n) old old answer.Nothing
+  pub certify_nothing : old.at.certified ≡ old.at.taken
+      → DoneOver order (λ n. certify_step order n) old old answer.Nothing
   unfolding certify_step
   certify_nothing all = record {
-    same = sym (ap (λ b. cond {A = Answer × ModelNode} b (answer.Nothing, plain_of old) (certify_event order (plain_of old) (slice_get order old.at.certified)))
-        (eq-eqb old.at.certified old.at.taken all));
+    same = rw (eq-eqb old.at.certified old.at.taken all) refl;
     stands = stands;
   }
 
   module _ (differs : old.at.certified ≡ old.at.taken → ⊥) where
-    unequal : old.at.certified == old.at.taken ≡ false
-    unequal = false_from_ne_true (old.at.certified == old.at.taken) (λ same. differs (eqb-true old.at.certified old.at.taken same))
-
-    pub more : old.at.certified < old.at.taken
-    more = less_from old.at.certified old.at.taken stands.facts.in_order.certified_fits unequal
+    more : old.at.certified < old.at.taken
+    more = let fits = stands.facts.in_order.certified_fits in omega (arith, differs, fits)
 
     first_is : slice_get old.inbox 0 ≡ slice_get order old.at.certified
-    first_is = ap (λ (es : List Event). slice_get es 0) stands.inbox ∙ first_of order old.at.certified old.at.taken more
+    first_is = ap (λ (es : List Event). slice_get es 0) stands.inbox
+        ∙ first_of order old.at.certified old.at.taken more
 
     -- then there is an event
     pub some_first : None ≡ slice_get old.inbox 0 → ⊥
     some_first none =
-        let e = some_there order old.at.certified (omega (arith, more, stands.facts.in_order.taken_fits)) in
-        some_not_none e.0 (slice_get order old.at.certified) e.1 (sym (none ∙ first_is))
+        let e = some_there order old.at.certified
+        (omega (arith, more, stands.facts.in_order.taken_fits)) in
+        none-some e.0 (none ∙ first_is ∙ e.1)
 
     -- and one more number
     pub can_certify : old.at.taken < 2 ^ 64 → CanCertify old.certification
@@ -93,83 +94,63 @@ module _ (order : List Event) (old : NodeParts) (stands : Stands order old) wher
     step_is : (e : Event) → slice_get order old.at.certified ≡ Some e
         → certify_step order (plain_of old) ≡ certify_event order (plain_of old) (Some e)
     unfolding certify_step
-    step_is e there =
-        ap (λ b. cond {A = Answer × ModelNode} b (answer.Nothing, plain_of old) (certify_event order (plain_of old) (slice_get order old.at.certified))) unequal
-        ∙ ap (certify_event order (plain_of old)) there
+    step_is e there = rw (ne_eqb old.at.certified old.at.taken differs, there) refl
 
-    module _ (e : Event) (here : Some e ≡ slice_get old.inbox 0) (became : Judged) (mid new : NodeParts)
-        (mid_is : mid ≡ record old {
+    module _ (e : Event) (here : Some e ≡ slice_get old.inbox 0) (became : Judged)
+        (inbox : List Event) (certification : ModelCertification) (new : NodeParts)
+        (dropped : inbox ≡ drop 1 old.inbox)
+        (certified : Certifies order old.at.committed old.at.certified old.certification
+        → old.at.committed ≤ old.at.certified → slice_get order old.at.certified ≡ Some e
+        → IsNext order old.at.committed old.at.certified e became certification)
+        (moves : Moves (told_if (is_write_of e old.at.member) (begin_in e) (old.at.certified + 1)
+        (verdict_of became)) (record old {
           at = record old.at { certified = old.at.certified + 1 };
-          inbox = mid.inbox;
-          certification = mid.certification;
-        })
-        (inbox : mid.inbox ≡ drop 1 old.inbox)
-        (certified : Certifies order old.at.committed old.at.certified old.certification → old.at.committed ≤ old.at.certified
-        → slice_get order old.at.certified ≡ Some e → IsNext order old.at.committed old.at.certified e became mid.certification)
-        (moves : Moves (told_if (is_write_of e old.at.member) (set_in e) (old.at.certified + 1) (verdict_of became)) mid new) where
+          inbox = inbox;
+          certification = certification;
+        }) new) where
       there : slice_get order old.at.certified ≡ Some e
       there = sym (here ∙ first_is)
 
-      next : IsNext order old.at.committed old.at.certified e became mid.certification
+      next : IsNext order old.at.committed old.at.certified e became certification
       next = certified stands.certification stands.facts.in_order.committed_fits there
 
+      abbrev number : ℕ
+      number = old.at.certified + 1
+
       abbrev counted : ModelNode
-      counted = record (plain_of old) { at = record old.at { certified = old.at.certified + 1 } }
+      counted = record (plain_of old) { at = record old.at { certified = number } }
 
       abbrev answered : Judged → Answer × ModelNode
-      answered j = (answer.Judged (old.at.certified + 1) j, told_event counted (old.at.certified + 1) (verdict_of j) e)
+      answered j = (answer.Judged number j, told_event counted number (verdict_of j) e)
 
-      same : (answer.Judged (old.at.certified + 1) became, plain_of new) ≡ certify_step order (plain_of old)
+      same : (answer.Judged number became, plain_of new) ≡ certify_step order (plain_of old)
       same =
-          ap (λ m. (answer.Judged (old.at.certified + 1) became, m))
-          (moves.plain
-          ∙ ap (λ (m : NodeParts). told_if (is_write_of e old.at.member) (set_in e) (old.at.certified + 1) (verdict_of became) (plain_of m)) mid_is
-          ∙ sym (event_is counted (old.at.certified + 1) (verdict_of became) e))
-          ∙ ap answered next.judged
-          ∙ sym (step_is e there)
+          ap (λ m. (answer.Judged number became, m))
+          (moves.plain ∙ sym (event_is counted number (verdict_of became) e))
+          ∙ ap answered next.judged ∙ sym (step_is e there)
 
-      new_at : new.at ≡ record old.at { certified = old.at.certified + 1 }
-      new_at =
-          ap (λ (m : ModelNode). m.at) moves.plain
-          ∙ if_at (is_write_of e old.at.member) (set_in e) (old.at.certified + 1) (verdict_of became) (plain_of mid)
-          ∙ ap (λ (m : NodeParts). m.at) mid_is
+      new_at : new.at ≡ record old.at { certified = number }
+      new_at = ap (λ (m : ModelNode). m.at) moves.plain
+          ∙ if_at (is_write_of e old.at.member) (begin_in e) number (verdict_of became) counted
 
-      certified_is : new.at.certified ≡ old.at.certified + 1
-      certified_is = ap (λ (a : _). a.certified) new_at
-
-      taken_is : new.at.taken ≡ old.at.taken
-      taken_is = ap (λ (a : _). a.taken) new_at
-
-      committed_is : new.at.committed ≡ old.at.committed
-      committed_is = ap (λ (a : _). a.committed) new_at
-
-      mid_ring : KeepsRing old mid
-      mid_ring = record {
-        ring = ap (λ (m : NodeParts). m.ring) mid_is;
-        since = ap (λ (m : NodeParts). m.since) mid_is;
-        id = ap (λ (m : NodeParts). m.id) mid_is;
-      }
-
-      mid_tables : Tables order mid
-      mid_tables = subst (Tables order) (sym mid_is) (record {
-        locks = stands.tables.locks;
-        rows = stands.tables.rows;
-        units = stands.tables.units;
-        room = stands.tables.room;
-      })
-
-      pub certify_does : DoneOver order (λ n. certify_step order n) old new (answer.Judged (old.at.certified + 1) became)
+      pub certify_does : DoneOver order (λ n. certify_step order n) old new
+          (answer.Judged number became)
       certify_does = record {
         same = same;
         stands = record {
-          inbox = moves.inbox ∙ inbox ∙ ap (drop 1) stands.inbox ∙ dropped_one order old.at.certified old.at.taken
-              ∙ ap (λ (k : ℕ). drop k (take old.at.taken order)) (sym certified_is)
-              ∙ ap (λ (k : ℕ). drop new.at.certified (take k order)) (sym taken_is);
-          certification = subst (λ (p : ℕ). Certifies order p new.at.certified new.certification) (sym committed_is)
-              (subst (λ (c : ℕ). Certifies order old.at.committed c new.certification) (sym certified_is)
-              (subst (Certifies order old.at.committed (old.at.certified + 1)) (sym moves.certification) next.certifies));
-          tables = moves.tables order mid_tables;
-          serves = serves_by order old new (rings_kept old mid new mid_ring moves.ring) taken_is (λ is. ap (λ (a : _). is_connected a.phase) (sym new_at) ∙ is) stands.serves;
-          facts = facts_certified order old new stands (answer.Judged (old.at.certified + 1) became) same;
+          inbox = moves.inbox ∙ dropped ∙ ap (drop 1) stands.inbox
+              ∙ dropped_one order old.at.certified old.at.taken
+              ∙ sym (ap (λ (p : Progress). drop p.certified (take p.taken order)) new_at);
+          certification = subst (λ (p : Progress). Certifies order p.committed p.certified
+              new.certification) (sym new_at)
+              (subst (Certifies order old.at.committed number) (sym moves.certification)
+              next.certifies);
+          tables = moves.tables order (search rules);
+          serves = serves_by order old new
+              (record { ring = moves.ring.ring; since = moves.ring.since; id = moves.ring.id })
+              (ap (λ (p : Progress). p.taken) new_at)
+              (λ is. ap (λ (p : Progress). is_connected p.phase) (sym new_at) ∙ is) stands.serves;
+          facts = facts_by order (λ n. certify_step order n) old new (answer.Judged number became)
+              stands same (certify_keeps order (plain_of old));
         };
       }

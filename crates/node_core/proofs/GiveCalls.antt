@@ -1,9 +1,10 @@
 -- What a node gives: the events of its ring, or a snapshot.
-use Rattle.std.proofs.Common.{◌≡◌, ℕ, zero, suc, ◌+◌, ◌-◌, ◌≤◌, Bool, true, false, cond, List, [], ◌∷◌, ◌++◌, length, take, drop, Some, refl, ap, sym, subst, ◌∙◌, arith, leb-true, length-take-le, length-append, append_assoc}
+use Rattle.std.proofs.Common.{◌≡◌, ℕ, ◌+◌, ◌-◌, ◌≤◌, Bool, true, false, cond, List, [], ◌∷◌, ◌++◌, length, take, drop, Some, refl, ap, sym, subst, ◌∙◌, arith, leb-true, length-take-le, length-append, append_assoc}
 use Rattle.std.specs.Prelude.{◌&&◌, ◌≢◌, not, nat_le, nat_lt, min, Ok, Err, Result, IfOk}
 use Rattle.std.specs.List.{filter}
 use Rattle.std.specs.Str.{bytes_eq}
-use Rattle.std.proofs.lemmas.Bool.{false_from_ne_true, ltb-false, le-ltb}
+use Rattle.std.proofs.Math.Seq.{drop-append-add}
+use Rattle.std.proofs.lemmas.Bool.{and_parts, false_from_ne_true, ltb-false, le-ltb}
 use Rattle.std.proofs.lemmas.Slice.Eq.{bytes_eq-Decides}
 use Rattle.std.proofs.lemmas.List.{take-append-drop}
 use Rattle.wsrep_base.specs.StateId.{nil_id}
@@ -30,10 +31,6 @@ use Rattle.node_core.specs.declared.node.NodeParts.{NodeParts}
 use Rattle.node_core.specs.Giving.{is_in, gives_events, events_from}
 use Rattle.node_core.specs.Stands.{Stands, plain_of}
 
-and_parts : (a b : Bool) → a && b ≡ true → (a ≡ true) × (b ≡ true)
-and_parts true b is = (refl, is)
-and_parts false b is = cc
-
 -- a number that is in the range has its event
 pub copy_is : (last : ℕ) (events : List Event) (from : ℕ) → is_in (range_to last events) from ≡ true
     → copy_in (range_to last events) events from ≡ Ok (drop (from - (last - length events + 1)) events)
@@ -45,11 +42,6 @@ low_in : (last : ℕ) (events : List Event) (from : ℕ) → is_in (range_to las
     → last - length events + 1 ≤ from
 low_in last [] from is = cc
 low_in last (e ∷ es) from is = leb-true _ _ (and_parts (nat_le (last - length (e ∷ es) + 1) from) (nat_le from last) is).0
-
-drop_past : (xs ys : List Event) (n k : ℕ) → n ≡ length xs + k → drop n (xs ++ ys) ≡ drop k ys
-drop_past [] ys n k is = let same : n ≡ k = omega (arith, is) in ap (λ j. drop j ys) same
-drop_past (x ∷ xs) ys zero k is = absurd (omega (arith, is))
-drop_past (x ∷ xs) ys (suc n) k is = drop_past xs ys n k (omega (arith, is))
 
 -- the events of a ring from a number on are those of the order
 module _ (order : List Event) (size since taken from : ℕ) (inside : taken ≤ length order) where
@@ -73,8 +65,11 @@ module _ (order : List Event) (size since taken from : ℕ) (inside : taken ≤ 
       let low = low_in taken kept from is in
       let count : taken ≡ length suffix.0 + length kept =
       sym (length-take-le taken order inside) ∙ ap (λ (l : List Event). length l) suffix.1 ∙ length-append suffix.0 kept in
+      let below : from - 1 ≡ length suffix.0 + (from - (taken - length kept + 1)) =
+      omega (arith, low, count) in
       sym (ap (drop (from - 1)) suffix.1
-      ∙ drop_past suffix.0 kept (from - 1) (from - (taken - length kept + 1)) (omega (arith, low, count)))
+      ∙ ap (λ k. drop k (suffix.0 ++ kept)) below
+      ∙ drop-append-add suffix.0 kept (from - (taken - length kept + 1)))
 
 module _ (order : List Event) (node : NodeParts) (st : Stands order node) (from : ℕ) where
   in_ring : is_in (range_of node.ring) from ≡ is_in (range_to node.at.taken (held node.ring.size (drop node.since (take node.at.taken order)))) from

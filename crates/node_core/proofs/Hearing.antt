@@ -27,12 +27,6 @@ one_more first order p (Some old) (Some notes) gains heard =
     ∙ ap (λ (k : ℕ). first ++ (notes_to order p ++ note_at order k ∷ [])) (add-one p)
     ∙ ap (λ (k : ℕ). first ++ notes_to order k) (sym (add-one p))
 
-waited : {W : Type 0} (notes : W → Option (List Note)) (first : List Note) (order : List Event) (p q : ℕ) (old new : Option W)
-    → q ≡ p → new ≡ old → HasHeard first order p (told_by notes old) → HasHeard first order q (told_by notes new)
-waited notes first order p q old new to same heard =
-    subst (λ (k : ℕ). HasHeard first order k (told_by notes new)) (sym to)
-    (subst (λ w. HasHeard first order p (told_by notes w)) (sym same) heard)
-
 -- it hears what an advance makes due
 pub heard_next : {W : Type 0} (notes : W → Option (List Note)) (first : List Note) (order : List Event) (p q : ℕ) (a : Advanced) (old new : Option W)
     → AdvancedTo a p q → Hears notes (note_due order a) old new
@@ -42,5 +36,4 @@ heard_next notes first order p q (advanced.At number) old new to hears heard =
     subst (λ (k : ℕ). HasHeard first order k (told_by notes new)) (sym there)
     (one_more first order p (told_by notes old) (told_by notes new)
     (subst (λ (k : ℕ). Gains (told_by notes old) (note_at order k) (told_by notes new)) to.0 hears) heard)
-heard_next notes first order p q advanced.Nothing old new to hears heard = waited notes first order p q old new to hears heard
-heard_next notes first order p q (advanced.NotReady number) old new to hears heard = waited notes first order p q old new to hears heard
+heard_next notes first order p q _ old new to hears heard = rw to (rw hears heard)

@@ -1,21 +1,22 @@
 -- The images that a unit needs: one for each row that its changes name.
-use Rattle.std.proofs.Common.{◌≡◌, ℕ, suc, ◌+◌, ◌<◌, Bool, true, false, cond, ◌||◌, ◌&&◌, List, [], ◌∷◌, ◌++◌, length, map, take, fold, get_or, Option, refl, sym, ap, subst, ◌∙◌, true≢false}
-use Rattle.std.specs.Prelude.{not}
-use Rattle.std.specs.List.{list_any, list_all, IsDistinct, AllByRecursion}
+use Rattle.std.proofs.Common.{◌≡◌, ℕ, ◌+◌, ◌<◌, Bool, true, false, cond, ◌||◌, ◌&&◌, List, [], ◌∷◌, ◌++◌, length, map, take, fold, get_or, Option, refl, sym, ap, subst, ◌∙◌}
+use Rattle.std.specs.List.{list_any, list_all, IsDistinct}
 use Rattle.std.specs.Map.{keys_of}
 use Rattle.std.specs.Ordering.{eq_by_cmp}
-use Rattle.std.proofs.lemmas.List.{map-append}
+use Rattle.std.specs.Cmp.{IsEquivalence, eq_by_cmp_equiv}
+use Rattle.std.proofs.Math.Bool.{or-true}
+use Rattle.std.proofs.lemmas.List.{map-append, length-map}
+use Rattle.std.proofs.lemmas.List.Folds.{list_any-append}
+use Rattle.std.proofs.lemmas.Map.Keys.{IsDistinct-push}
 use Rattle.std.proofs.lemmas.List.Sums.{fold_more}
-use Rattle.std.proofs.lemmas.Bool.{or_parts}
 use Rattle.finite_map.specs.FiniteMap.{get}
 use Rattle.row_model.specs.declared.row.RowId.{RowId}
 use Rattle.row_model.specs.declared.ops.Op.{Op}
 use Rattle.row_model.specs.Rows.{Rows, row_cmp, id_of, ops_on}
-use Rattle.row_model.specs.RowOrder.{row_eq, row_ties, row_itself}
+use Rattle.row_model.specs.RowOrder.{row_eq, row_total, row_ties, row_itself}
 use Rattle.apply_unit.specs.Results.{Image, AreTaken, computed, put_all}
 use Rattle.apply_unit.specs.Task.{AreImagesOf}
 use Rattle.apply_unit.proofs.PutLemmas.{put_all-computed}
-use Rattle.apply_unit.proofs.TaskLemmas.{row_symmetric}
 use Rattle.node_meaning.specs.Units.{with_id, named_rows, images_of}
 
 any_ties : (id : RowId) (ids : List RowId) → list_any (row_eq id) ids ≡ list_any (eq_by_cmp row_cmp id) ids
@@ -28,14 +29,6 @@ no_rows = refl
 
 pub no_images : (rows : Rows) → [] ≡ images_of [] rows
 no_images rows = ap (map {B = Image} (λ (id : RowId). (id, get rows id))) no_rows
-
-pub was_there : (b c : Bool) → b ≡ not c → b ≡ false → c ≡ true
-was_there b true is f = refl
-was_there b false is f = absurd (true≢false (sym is ∙ f))
-
-pub was_new : (b c : Bool) → b ≡ not c → b ≡ true → c ≡ false
-was_new b true is t = absurd (true≢false (sym t ∙ is))
-was_new b false is t = refl
 
 named_more : (ops : List Op) (i : ℕ) (d : Op) → i < length ops → named_rows (take (i + 1) ops) ≡ with_id (named_rows (take i ops)) (id_of (get_or ops i d))
 unfolding named_rows
@@ -77,21 +70,15 @@ module _ (ops : List Op) (i : ℕ) (op : Op) (id : RowId) (named after : List Ro
         ∙ ap imaged (grown false there)
 
 -- ---- the images are those of a task
-any_left : (q x : RowId) (ids : List RowId) → list_any (row_eq q) ids ≡ true → list_any (row_eq q) (ids ++ x ∷ []) ≡ true
-any_left q x [] there = absurd (true≢false (sym there))
-any_left q x (y ∷ ys) there = left_by (row_eq q y) (list_any (row_eq q) ys) (list_any (row_eq q) (ys ++ x ∷ [])) (any_left q x ys) there
-  where
-    left_by : (b c d : Bool) → (c ≡ true → d ≡ true) → b || c ≡ true → b || d ≡ true
-    left_by true c d rest there = refl
-    left_by false c d rest there = rest there
+any_left : (q x : RowId) (ids : List RowId) → list_any (row_eq q) ids ≡ true
+    → list_any (row_eq q) (ids ++ x ∷ []) ≡ true
+any_left q x ids there =
+    list_any-append (row_eq q) ids (x ∷ []) ∙ ap (λ b. b || list_any (row_eq q) (x ∷ [])) there
 
 any_last : (q : RowId) (ids : List RowId) → list_any (row_eq q) (ids ++ q ∷ []) ≡ true
-any_last q [] = ap (λ b. b || false) (row_itself q)
-any_last q (y ∷ ys) = ap (λ b. row_eq q y || b) (any_last q ys) ∙ or_true (row_eq q y)
-  where
-    or_true : (b : Bool) → b || true ≡ true
-    or_true true = refl
-    or_true false = refl
+any_last q ids = list_any-append (row_eq q) ids (q ∷ [])
+    ∙ ap (λ b. list_any (row_eq q) ids || (b || false)) (row_itself q)
+    ∙ or-true (list_any (row_eq q) ids)
 
 stays_by : (q x : RowId) (ids : List RowId) (b : Bool) → list_any (row_eq q) ids ≡ true → list_any (row_eq q) (cond b ids (ids ++ x ∷ [])) ≡ true
 stays_by q x ids true there = there
@@ -116,22 +103,14 @@ all_named (op ∷ ops) ids =
     (stays (id_of op) ops (with_id ids (id_of op)) (enters_by (id_of op) ids (list_any (eq_by_cmp row_cmp (id_of op)) ids) refl))
     ∙ all_named ops (with_id ids (id_of op))
 
-others_last : (x q : RowId) (ids : List RowId) → AllByRecursion (λ y. row_eq x y ≡ false) ids → row_eq x q ≡ false
-    → AllByRecursion (λ y. row_eq x y ≡ false) (ids ++ q ∷ [])
-others_last x q [] all other = (other, tt)
-others_last x q (y ∷ ys) all other = (all.0, others_last x q ys all.1 other)
-
-distinct_last : (q : RowId) (ids : List RowId) → IsDistinct row_eq ids → list_any (row_eq q) ids ≡ false → IsDistinct row_eq (ids ++ q ∷ [])
-unfolding IsDistinct
-distinct_last q [] apart none = (tt, tt)
-distinct_last q (y ∷ ys) apart none =
-    let both = or_parts (row_eq q y) (list_any (row_eq q) ys) none in
-    (others_last y q ys apart.0 (row_symmetric y q ∙ both.0), distinct_last q ys apart.1 both.1)
+row_equivalence : IsEquivalence row_eq
+row_equivalence = subst IsEquivalence (λ i a b. sym (row_ties a b) i) (eq_by_cmp_equiv row_total)
 
 distinct_by : (q : RowId) (ids : List RowId) (b : Bool) → list_any (eq_by_cmp row_cmp q) ids ≡ b → IsDistinct row_eq ids
     → IsDistinct row_eq (cond b ids (ids ++ q ∷ []))
 distinct_by q ids true there apart = apart
-distinct_by q ids false there apart = distinct_last q ids apart (any_ties q ids ∙ there)
+distinct_by q ids false there apart =
+    IsDistinct-push row_equivalence ids q apart (any_ties q ids ∙ there)
 
 all_distinct : (ops : List Op) (ids : List RowId) → IsDistinct row_eq ids → IsDistinct row_eq (gather ids ops)
 all_distinct [] ids apart = apart
@@ -166,9 +145,5 @@ put_named ops rows =
     put_all-computed ops (images_of ops rows) rows (images_are ops rows) (images_taken rows (named_rows ops))
 
 -- as many as rows are named
-count_mapped : (rows : Rows) (ids : List RowId) → length (map {B = Image} (λ (id : RowId). (id, get rows id)) ids) ≡ length ids
-count_mapped rows [] = refl
-count_mapped rows (id ∷ ids) = ap (λ n. suc n) (count_mapped rows ids)
-
 pub count_images : (ops : List Op) (rows : Rows) → length (images_of ops rows) ≡ length (named_rows ops)
-count_images ops rows = count_mapped rows (named_rows ops)
+count_images ops rows = length-map {B = Image} (named_rows ops) (λ id. (id, get rows id))

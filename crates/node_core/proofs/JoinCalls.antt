@@ -1,9 +1,10 @@
 -- A node that joins, and one that takes the state that it misses, stands as the model's does.
-use Rattle.std.proofs.Common.{◌≡◌, ℕ, zero, suc, ◌+◌, ◌≤◌, Bool, List, [], ◌∷◌, ◌++◌, length, take, drop, None, refl, ap, sym, subst, ◌∙◌, arith}
+use Rattle.std.proofs.Common.{rules, ◌≡◌, ℕ, ◌+◌, ◌≤◌, Bool, List, [], ◌∷◌, ◌++◌, length, take, drop, None, refl, ap, sym, subst, ◌∙◌, arith}
 use Rattle.std.specs.Prelude.{if◌then◌else◌}
 use Rattle.std.specs.List.{AllByRecursion, filter_map, cons_option}
 use Rattle.std.proofs.Common.{length-take-le}
-use Rattle.std.proofs.lemmas.List.{drop-append-le}
+use Rattle.std.proofs.Math.Seq.{take-add}
+use Rattle.std.proofs.lemmas.List.{drop-append-le, length-take, length-drop}
 use Rattle.gcache_ring.specs.Held.{Ring, held, with_events}
 use Rattle.gcache_ring.proofs.HeldLemmas.{held-all, held-fits, held-all_again, with_events-is}
 use Rattle.wsrep_base.specs.StateId.{nil_id}
@@ -37,12 +38,7 @@ join_does old fresh member view id rests is order st =
       stands = record {
         inbox = st.inbox;
         certification = st.certification;
-        tables = record {
-          locks = st.tables.locks;
-          rows = st.tables.rows;
-          units = st.tables.units;
-          room = st.tables.room;
-        };
+        tables = search rules;
         serves = record {
           ring = st.serves.ring;
           since = st.serves.since;
@@ -53,27 +49,6 @@ join_does old fresh member view id rests is order st =
     }
 
 -- ---- several events are taken at once
-take_none : (n : ℕ) → take {A = Event} n [] ≡ []
-take_none zero = refl
-take_none (suc n) = refl
-
-take_parts : (xs : List Event) (k n m : ℕ) → m ≡ k + n → take m xs ≡ take k xs ++ take n (drop k xs)
-take_parts xs zero n m is = let same : m ≡ n = omega (arith, is) in ap (λ j. take j xs) same
-take_parts [] (suc k) n m is = take_none m ∙ sym (take_none n)
-take_parts (x ∷ xs) (suc k) n zero is = absurd (omega (arith, is))
-take_parts (x ∷ xs) (suc k) n (suc m) is = ap (λ (l : List Event). x ∷ l) (take_parts xs k n m (omega (arith, is)))
-
-take_long : (n : ℕ) (xs : List Event) → length (take n xs) ≤ length xs
-take_long zero [] = omega arith
-take_long zero (x ∷ xs) = omega arith
-take_long (suc n) [] = omega arith
-take_long (suc n) (x ∷ xs) = let rest = take_long n xs in omega (arith, rest)
-
-drop_long : (k : ℕ) (xs : List Event) → k ≤ length xs → k + length (drop k xs) ≡ length xs
-drop_long zero xs fits = omega arith
-drop_long (suc k) [] fits = absurd (omega (arith, fits))
-drop_long (suc k) (x ∷ xs) fits = let rest = drop_long k xs (omega (arith, fits)) in omega (arith, rest)
-
 none_of : (member : ℕ) (events : List Event) → AllByRecursion (λ e. own_body member e ≡ None) events
     → filter_map (own_body member) events ≡ []
 none_of member [] all = refl
@@ -84,15 +59,15 @@ module _ (order events : List Event) (taken last : ℕ) (inside : taken ≤ leng
     (next : AreNext order taken events) (to : last ≡ taken + length events) where
   last_fits : last ≤ length order
   last_fits =
-      let few : length events ≤ length (drop taken order) =
-      subst (λ (l : List Event). length l ≤ length (drop taken order)) next (take_long (length events) (drop taken order)) in
-      omega (arith, few, to, drop_long taken order inside)
+      let few = sym (length-take (length events) (drop taken order)) ∙ ap length next in
+      omega (arith, few, to, length-drop taken order, inside)
 
   taken_more : (from : ℕ) → from ≤ taken
       → drop from (take taken order) ++ events ≡ drop from (take last order)
   taken_more from below =
       let long : from ≤ length (take taken order) = omega (arith, length-take-le taken order inside, below) in
-      sym (ap (drop from) (take_parts order taken (length events) last to ∙ ap (λ (l : List Event). take taken order ++ l) next)
+      sym (ap (drop from) (ap (λ k. take k order) to ∙ take-add taken (length events) order
+      ∙ ap (λ (l : List Event). take taken order ++ l) next)
       ∙ drop-append-le from (take taken order) events long)
 
   events_are : drop taken (take last order) ≡ events
@@ -146,12 +121,7 @@ module _ (old : NodeParts) (events : List Event) (last : ℕ) (to : last ≡ old
         inbox = ap (λ (l : List Event). l ++ events) st.inbox
             ∙ taken_more order events old.at.taken last inside next to old.at.certified st.facts.in_order.certified_fits;
         certification = st.certification;
-        tables = record {
-          locks = st.tables.locks;
-          rows = st.tables.rows;
-          units = st.tables.units;
-          room = st.tables.room;
-        };
+        tables = search rules;
         serves = record {
           ring = ring_after ∙ ap (λ (k : ℕ). record {
             size = k;

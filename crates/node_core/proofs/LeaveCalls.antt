@@ -1,5 +1,5 @@
 -- What leaving makes of the sessions and the other parts of a node.
-use Rattle.std.proofs.Common.{true≢false, ◌≡◌, ◌⊎◌, ℕ, ◌+◌, ◌<◌, ◌≤◌, Bool, true, false, cond, eqb, eqb-true, inl, inr, List, [], ◌∷◌, ◌++◌, Option, None, Some, refl, ap, sym, subst, ◌∙◌, arith, get_or, take, drop}
+use Rattle.std.proofs.Common.{rules, ◌≡◌, ◌⊎◌, ℕ, ◌+◌, ◌<◌, ◌≤◌, Bool, true, false, cond, eqb, eqb-true, inl, inr, List, [], ◌∷◌, ◌++◌, Option, None, Some, refl, ap, sym, subst, ◌∙◌, arith, get_or, take, drop}
 use Rattle.std.specs.Prelude.{T, ◌&&◌, fold, map}
 use Rattle.std.specs.List.{filter_map, list_any, AllByRecursion}
 use Rattle.std.specs.Ordering.{nat_cmp}
@@ -13,6 +13,7 @@ use Rattle.order_event.specs.declared.event.Message.{Message}
 use Rattle.order_event.specs.declared.event.Message.TheVariants as message
 use Rattle.write_set.specs.declared.write_set.WriteSet.{WriteSet}
 use Rattle.write_set.specs.Reading.{decoded}
+use Rattle.certification.specs.Certifies.{Certifies}
 use Rattle.client_trx.specs.Live.{Live}
 use Rattle.client_trx.specs.declared.status.Status.{Status}
 use Rattle.client_trx.specs.declared.status.Status.TheVariants as status
@@ -24,15 +25,14 @@ use Rattle.node_meaning.specs.declared.progress.Progress.{Progress}
 use Rattle.node_meaning.specs.declared.progress.Phase.TheVariants as phase
 use Rattle.node_meaning.specs.Node.{ModelNode, end_live}
 use Rattle.node_meaning.specs.Facts.{Facts, own_body, sent_body}
-use Rattle.node_meaning.specs.Leaving.{is_commit_of, waits_in, where_untaken, told_at_leave, ended_where, leave_one, sessions_left, departed, left_node}
+use Rattle.node_meaning.specs.Leaving.{is_commit_of, where_untaken, ended_where, leave_one, sessions_left, departed, left_node}
 use Rattle.node_meaning.proofs.EntryLaws.{in_from_get, get_from_in}
 use Rattle.node_laws.proofs.Leaving.{facts_left}
 use Rattle.node_core.specs.declared.node.NodeParts.{NodeParts}
 use Rattle.node_core.specs.Stands.{KeepsRing}
-use Rattle.node_core.proofs.Standing.{ring_by, rings_kept}
+use Rattle.node_core.proofs.Standing.{serves_by, ring_by, rings_kept}
 use Rattle.node_core.specs.Leaving.{told_of, session_left}
 use Rattle.node_core.specs.Stands.{Stands, Tables, Does, Moves, quietly, plain_of}
-use Rattle.node_core.proofs.ClientCalls.{stands_by}
 
 -- ---- what was sent are write sets
 abbrev Spells : List ℕ → Type 0
@@ -87,9 +87,6 @@ module _ (queue : List Message) where
     pub are : Rest (session_left queue n s).live (s + 1) rest
     pub same : fold (leave_one queue) (session_left queue n s) rest ≡ fold (leave_one queue) n es
 
-  key_of : (q p : ℕ) (u t : Live) → ◌≡◌ {A = ℕ × Live} (q, u) (p, t) → q ≡ p
-  key_of q p u t is = ap (λ (x : ℕ × Live). x.0) is
-
   sorted_parts : (a b : Bool) → T (a && b) → T a × T b
   sorted_parts true b h = (tt, h)
   sorted_parts false b h = absurd h
@@ -138,7 +135,8 @@ module _ (queue : List Message) where
       }
     where
       behind : (q : ℕ) (u : Live) → s ≡ e.0 → s + 1 ≤ q → In (q, u) (e ∷ es) → In (q, u) es
-      behind q u at after (inl same) = let is = key_of q e.0 u e.1 same in absurd (omega (arith, is, at, after))
+      behind q u at after (inl same) =
+          let is = ap (λ (x : ℕ × Live). x.0) same in absurd (omega (arith, is, at, after))
       behind q u at after (inr i) = i
   turn_at n s e es r false elsewhere = turn_idle n s (e ∷ es) r (no_entry n.live s (e ∷ es) r none (get n.live s) refl) later
     where
@@ -148,7 +146,7 @@ module _ (queue : List Message) where
           let low = (r.there e.0 e.1 (inl refl)).0 in omega (arith, apart, low)
 
       later : (q : ℕ) (u : Live) → In (q, u) (e ∷ es) → s < q
-      later q u (inl same) = let is = key_of q e.0 u e.1 same in omega (arith, is, above)
+      later q u (inl same) = let is = ap (λ (x : ℕ × Live). x.0) same in omega (arith, is, above)
       later q u (inr i) = let h = later_entries e es r.rising q u i in omega (arith, h, above)
 
       none : (u : Live) → In (s, u) (e ∷ es) → ⊥
@@ -159,27 +157,17 @@ module _ (queue : List Message) where
   turn n s (e ∷ es) r = turn_at n s e es r (eqb s e.0) refl
 
   -- what is told of one whose commit was sent
-  told_by : (t : Live) (st : Status) → st ≡ t.status → (st ≡ status.CommitSent) ⊎ (st ≡ status.KilledSent)
-      → where_untaken (waits_in queue t) ≡ told_at_leave (waits_in queue t) t.status
-  told_by t st is (inl sent) = sym (ap (told_at_leave (waits_in queue t)) (sym is ∙ sent))
-  told_by t st is (inr killed) = sym (ap (told_at_leave (waits_in queue t)) (sym is ∙ killed))
-
   pub told_sent : (o : Option Live) (t : Live) (st : Status) (begin : ℕ) → o ≡ Some t → st ≡ t.status
       → (st ≡ status.CommitSent) ⊎ (st ≡ status.KilledSent) → begin ≡ t.trx.begin
       → where_untaken (list_any (is_commit_of begin) queue) ≡ told_of queue o
-  told_sent o t st begin there is sent named =
-      ap (λ b. where_untaken (list_any (is_commit_of b) queue)) named ∙ told_by t st is sent ∙ sym (ap (told_of queue) there)
+  told_sent o t st begin there is (inl sent) named = rw (there, named, sym is ∙ sent) refl
+  told_sent o t st begin there is (inr sent) named = rw (there, named, sym is ∙ sent) refl
 
 -- ---- one session in the parts of a node
 pub moves_idle : (node : NodeParts) (s : ℕ) (queue : List Message) → None ≡ told_of queue (get node.live s)
     → Moves (λ n. session_left queue n s) node node
-moves_idle node s queue none = record {
-  plain = ap (ended_where (plain_of node) s) none;
-  inbox = refl;
-  ring = ring_by node node refl;
-  certification = refl;
-  tables = λ order tables. tables;
-}
+moves_idle node s queue none =
+    let same = ap (ended_where (plain_of node) s) none in search rules
 
 pub moves_told : (old mid : NodeParts) (s : ℕ) (queue : List Message) (reply : Reply) (waiting : FiniteMap nat_cmp Reply)
     → Some reply ≡ told_of queue (get old.live s) → Moves (λ n. end_live n s) old mid
@@ -228,13 +216,10 @@ none_left node sessions = record {
   tables = λ order tables. tables;
 }
 
-where_queued : (n : ModelNode) (s : ℕ) (o : Option Reply)
-    → ((ended_where n s o).ordered ≡ n.ordered) × ((ended_where n s o).outbox ≡ n.outbox)
-where_queued n s None = (refl, refl)
-where_queued n s (Some r) = (refl, refl)
-
-same_queue : (p q : Queued) → p.ordered ≡ q.ordered → p.outbox ≡ q.outbox → p ≡ q
-same_queue p q ordered outbox i = record { ordered = ordered i; outbox = outbox i }
+where_same : (n : ModelNode) (s : ℕ) (o : Option Reply) → ((ended_where n s o).at ≡ n.at)
+    × ((ended_where n s o).ordered ≡ n.ordered) × ((ended_where n s o).outbox ≡ n.outbox)
+where_same n s None = (refl, refl, refl)
+where_same n s (Some r) = (refl, refl, refl)
 
 pub more_left : (old mid new : NodeParts) (s : ℕ) → HasLeft old mid s
     → Moves (λ n. session_left (messages_of mid.queue) n s) mid new → HasLeft old new (s + 1)
@@ -242,13 +227,14 @@ more_left old mid new s so_far moves =
     let all = messages_of old.queue in
     let plain : plain_of new ≡ session_left all (plain_of mid) s =
     moves.plain ∙ ap (λ q. session_left (messages_of q) (plain_of mid) s) so_far.queue in
-    let queued = where_queued (plain_of mid) s (told_of all (get mid.live s)) in
+    let ended = where_same (plain_of mid) s (told_of all (get mid.live s)) in
+    let ordered = ap (λ (n : ModelNode). n.ordered) plain ∙ ended.1 in
+    let outbox = ap (λ (n : ModelNode). n.outbox) plain ∙ ended.2 in
     let next = turn all (plain_of mid) s so_far.rest so_far.are in
     let low = so_far.low in
     record {
       low = omega (arith, low);
-      queue = same_queue new.queue mid.queue (ap (λ (n : ModelNode). n.ordered) plain ∙ queued.0)
-          (ap (λ (n : ModelNode). n.outbox) plain ∙ queued.1) ∙ so_far.queue;
+      queue = (λ i. record { ordered = ordered i; outbox = outbox i }) ∙ so_far.queue;
       rest = next.rest;
       are = subst (λ (n : ModelNode). Rest all n.live (s + 1) next.rest) (sym plain) next.are;
       same = ap (λ (n : ModelNode). fold (leave_one all) n next.rest) plain ∙ next.same ∙ so_far.same;
@@ -275,24 +261,17 @@ all_left old new s left past = record {
 }
 
 -- ---- the node has left
-where_at : (n : ModelNode) (s : ℕ) (o : Option Reply) → (ended_where n s o).at ≡ n.at
-where_at n s None = refl
-where_at n s (Some r) = refl
-
 fold_at : (queue : List Message) (es : List (ℕ × Live)) (n : ModelNode) → (fold (leave_one queue) n es).at ≡ n.at
 fold_at queue [] n = refl
-fold_at queue (e ∷ es) n = fold_at queue es (leave_one queue n e) ∙ where_at n e.0 _
+fold_at queue (e ∷ es) n = fold_at queue es (leave_one queue n e) ∙ (where_same n e.0 _).0
 
 left_at : (n : ModelNode) → (sessions_left n).at ≡ n.at
 unfolding sessions_left
 left_at n = fold_at (n.ordered ++ n.outbox) n.live.entries n
 
-departed_is : (n : ModelNode) → departed (sessions_left n) ≡ left_node n
-unfolding left_node
-departed_is n = refl
-
 pub has_departed : (old mid : NodeParts) (queue : Queued) → Moves sessions_left old mid → queue ≡ nothing_sent
     → Does (quietly left_node) old (record mid { at = record mid.at { phase = phase.Left }; queue = queue }) tt
+unfolding left_node
 has_departed old mid queue moves empty order st =
     let new = record mid { at = record mid.at { phase = phase.Left }; queue = queue } in
     let at : mid.at ≡ old.at = ap (λ (n : ModelNode). n.at) moves.plain ∙ left_at (plain_of old) in
@@ -302,13 +281,21 @@ has_departed old mid queue moves empty order st =
       ordered = q.ordered;
       outbox = q.outbox;
     }) empty
-    ∙ ap departed moves.plain ∙ departed_is (plain_of old) in
+    ∙ ap departed moves.plain in
     let t = moves.tables order st.tables in
     record {
       same = ap (λ (n : ModelNode). (tt, n)) same;
-      stands = stands_by order old new st (ap (λ (p : Progress). p.committed) at) (ap (λ (p : Progress). p.certified) at)
-          (ap (λ (p : Progress). p.taken) at) (λ is. absurd (true≢false (sym is)))
-          (record { ring = moves.ring.ring; since = moves.ring.since; id = moves.ring.id }) moves.inbox moves.certification
-          (record { locks = t.locks; rows = t.rows; units = t.units; room = t.room })
-          (subst (Facts order) (sym same) (facts_left (plain_of old) order st.facts));
+      stands = record {
+        inbox = moves.inbox ∙ st.inbox
+            ∙ sym (ap (λ (p : Progress). drop p.certified (take p.taken order)) at);
+        certification = subst (λ (p : Progress). Certifies order p.committed p.certified
+            mid.certification) (sym at)
+            (subst (Certifies order old.at.committed old.at.certified) (sym moves.certification)
+            st.certification);
+        tables = record { locks = t.locks; rows = t.rows; units = t.units; room = t.room };
+        serves = serves_by order old new
+            (record { ring = moves.ring.ring; since = moves.ring.since; id = moves.ring.id })
+            (ap (λ (p : Progress). p.taken) at) (λ is. cc) st.serves;
+        facts = subst (Facts order) (sym same) (facts_left (plain_of old) order st.facts);
+      };
     }

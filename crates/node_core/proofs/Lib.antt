@@ -8,7 +8,6 @@ pub mod GiveCalls
 pub mod Growth
 pub mod Hearing
 pub mod JoinCalls
-pub mod KeptFacts
 pub mod ImageCalls
 pub mod KillCalls
 pub mod LeaveCalls

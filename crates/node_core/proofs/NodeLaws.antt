@@ -1,6 +1,6 @@
 -- The laws of a node for callers: it stands for each order that goes on from its own, and after want of memory; and over each
 -- order for which it stands the task of a started unit is the same.
-use Rattle.std.proofs.Common.{◌≡◌, ℕ, true, List, Option, Some, None, refl, sym, ap, subst, ◌∙◌}
+use Rattle.std.proofs.Common.{◌≡◌, ℕ, true, List, Option, Some, refl, sym, ap, subst, ◌∙◌}
 use Rattle.std.specs.Prelude.{IsTrue, is_some}
 use Rattle.std.proofs.lemmas.Option.{same_Some}
 use Rattle.finite_map.specs.FiniteMap.{get}
@@ -17,6 +17,7 @@ use Rattle.node_meaning.proofs.UnitLaws.{task-unit}
 use Rattle.node_laws.proofs.StartedUnits as units
 use Rattle.node_core.specs.declared.node.NodeParts.{NodeParts}
 use Rattle.node_core.specs.Stands.{Stands, plain_of}
+use Rattle.node_core.proofs.FinishCalls.{unit_there}
 pub use Rattle.node_core.proofs.ClientCalls.{unchanged_stands}
 pub use Rattle.node_core.proofs.Growth.{stands_grow}
 
@@ -39,12 +40,9 @@ module _ (order other : List Event) (node : NodeParts) (st : Stands order node) 
       ∙ ap (λ (rows : Rows). task number (ops_at other number) (images_of (ops_at other number) rows)) same_rows
       ∙ sym (task-unit other (plain_of node) number u su.facts there)
 
-  by_unit : (o : Option ApplyUnit) → get node.units.units number ≡ o → is_started o ≡ true → unit_task order number ≡ unit_task other number
-  by_unit None there is = absurd cc
-  by_unit (Some u) there is = task_of u there
-
   pub started_task : is_started (get node.units.units number) ≡ true → unit_task order number ≡ unit_task other number
-  started_task is = by_unit (get node.units.units number) refl is
+  started_task is =
+      let unit = unit_there (get node.units.units number) is in task_of unit.0 unit.1
 
 -- committing takes away no started unit
 pub advance_started : (order : List Event) (node : NodeParts) → Stands order node → (k : ℕ)

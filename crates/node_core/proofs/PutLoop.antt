@@ -1,18 +1,13 @@
 -- Results that are put one after another.
-use Rattle.std.proofs.Common.{◌≡◌, ℕ, zero, suc, ◌+◌, ◌<◌, List, [], ◌∷◌, length, take, None, refl, ap, sym, ◌∙◌, arith, add-one}
+use Rattle.std.proofs.Common.{◌≡◌, ℕ, zero, suc, ◌+◌, ◌<◌, List, [], ◌∷◌, length, take, None, ap, sym, ◌∙◌, arith}
 use Rattle.std.specs.Prelude.{slice_index_or}
+use Rattle.std.proofs.lemmas.List.{take_all}
+use Rattle.std.proofs.lemmas.List.Sums.{fold_more}
 use Rattle.finite_map.specs.FiniteMap.{get}
 use Rattle.row_model.specs.Rows.{Rows, with_row}
 use Rattle.apply_unit.specs.Results.{Image, put_all}
 use Rattle.undo_rows.specs.RowTable.{Changes}
 use Rattle.node_core.specs.Advancing.{AreFree}
-
-put_next : (results : List Image) (i : ℕ) (d : Image) (rows : Rows) → i < length results
-    → put_all (take (suc i) results) rows
-    ≡ with_row (put_all (take i results) rows) (slice_index_or results i d).0 (slice_index_or results i d).1
-put_next [] i d rows below = absurd (omega (arith, below))
-put_next (e ∷ es) zero d rows below = refl
-put_next (e ∷ es) (suc i) d rows below = put_next es i d (with_row rows e.0 e.1) (omega (arith, below))
 
 -- one more is put
 pub put_more : (results : List Image) (i : ℕ) (e : Image) (rows now after : Rows) → i < length results → e ≡ slice_index_or results i e
@@ -20,7 +15,8 @@ pub put_more : (results : List Image) (i : ℕ) (e : Image) (rows now after : Ro
 put_more results i e rows now after below is before step =
     step ∙ ap (λ r. with_row r e.0 e.1) before
     ∙ ap (λ (x : Image). with_row (put_all (take i results) rows) x.0 x.1) is
-    ∙ sym (put_next results i e rows below) ∙ ap (λ k. put_all (take k results) rows) (sym (add-one i))
+    ∙ sym (fold_more (λ (done : Rows) (image : Image). with_row done image.0 image.1) rows results i
+    e below)
 
 free_there : (changes : Changes) (results : List Image) (i : ℕ) (d : Image) → i < length results → AreFree changes results
     → get changes (slice_index_or results i d).0 ≡ None
@@ -34,7 +30,4 @@ pub free_at : (changes : Changes) (results : List Image) (i : ℕ) (e : Image) �
 free_at changes results i e below is free = ap (λ (x : Image). get changes x.0) is ∙ free_there changes results i e below free
 
 pub take_whole : (results : List Image) (i : ℕ) (rows : Rows) → length results ≡ i → put_all (take i results) rows ≡ put_all results rows
-take_whole [] zero rows is = refl
-take_whole [] (suc i) rows is = refl
-take_whole (e ∷ es) zero rows is = absurd (omega (arith, is))
-take_whole (e ∷ es) (suc i) rows is = take_whole es i (with_row rows e.0 e.1) (omega (arith, is))
+take_whole results i rows is = ap (λ l. put_all l rows) (take_all i results (omega (arith, is)))

@@ -42,14 +42,10 @@ is_none : {A : Type 0} (o : Option A) → ((a : A) → o ≡ Some a → ⊥) →
 is_none None none = refl
 is_none (Some a) none = absurd (none a refl)
 
-same_Ok : (x y : FoldState × List ℕ) → ◌≡◌ {A = Result (FoldState × List ℕ) SnapFault} (Ok x) (Ok y)
-    → x ≡ y
-same_Ok x y is = cc
-
 pair_of : (s t : FoldState) (id other : List ℕ)
     → ◌≡◌ {A = Result (FoldState × List ℕ) SnapFault} (Ok (s, id)) (Ok (t, other)) → (s ≡ t) × (id ≡ other)
 pair_of s t id other is =
-    let same = same_Ok (s, id) (t, other) is in
+    let same : ◌≡◌ {A = FoldState × List ℕ} (s, id) (t, other) = cc in
     (ap (λ (x : FoldState × List ℕ). x.0) same, ap (λ (x : FoldState × List ℕ). x.1) same)
 
 -- ---- what is installed

@@ -1,30 +1,31 @@
 -- How a call shows that the node stands after it.
-use Rattle.std.proofs.Common.{◌≡◌, ℕ, zero, suc, ◌+◌, ◌≤◌, ◌<◌, List, [], ◌∷◌, ◌++◌, length, take, drop, true, Some, refl, ap, sym, subst, ◌∙◌, arith, add-one, length-take-le}
+use Rattle.std.proofs.Common.{rules, ◌≡◌, ℕ, zero, suc, ◌+◌, ◌≤◌, ◌<◌, List, [], ◌∷◌, ◌++◌, length, take, drop, true, Some, refl, ap, sym, subst, ◌∙◌, arith, add-one, length-take-le}
 use Rattle.std.specs.Prelude.{slice_get}
-use Rattle.std.proofs.lemmas.List.{drop-append-le}
-use Rattle.std.proofs.lemmas.Option.{same_Some}
+use Rattle.std.proofs.lemmas.List.{drop-append-le, take_more}
+use Rattle.std.proofs.lemmas.Option.{get_or_from_slice_get, slice_get_within}
+use Rattle.finite_map.specs.FiniteMap.{get, insert}
+use Rattle.finite_map.proofs.Edits.{numbers, Inserted, AtKey, Elsewhere, inserted, get-put, get-put_beside}
 use Rattle.order_event.specs.declared.event.Event.{Event}
+use Rattle.certification.specs.Certifies.{Certifies}
 use Rattle.node_core.specs.declared.node.NodeParts.{NodeParts}
-use Rattle.node_meaning.specs.Node.{ModelNode, is_connected}
+use Rattle.node_meaning.specs.declared.progress.Progress.{Progress}
+use Rattle.node_meaning.specs.Node.{ModelNode, ApplyUnit, is_connected}
+use Rattle.node_meaning.specs.Facts.{Facts}
 use Rattle.node_meaning.specs.Joining.{ring_of}
 use Rattle.gcache_ring.specs.Held.{Ring, held, with_event}
 use Rattle.gcache_ring.proofs.HeldLemmas.{held-again}
-use Rattle.node_core.specs.Stands.{Unchanged, Serves, KeepsRing, plain_of}
+use Rattle.node_parts.specs.Units.{Work, UnitTable}
+use Rattle.node_core.specs.Stands.{Unchanged, Serves, KeepsRing, AreWorked, IsWorked, Tables, Stands, DoneOver, plain_of}
 
 -- ---- the inbox
-take_more : {A : Type 0} (xs : List A) (n : ℕ) (x : A) → slice_get xs n ≡ Some x → take (suc n) xs ≡ take n xs ++ x ∷ []
-take_more [] n x there = cc
-take_more (y ∷ ys) zero x there = ap (λ z. z ∷ []) (same_Some y x there)
-take_more (y ∷ ys) (suc n) x there = ap (λ zs. y ∷ zs) (take_more ys n x there)
-
 -- one more event is taken
 pub taken_one : (order : List Event) (certified taken : ℕ) (e : Event) → certified ≤ taken → taken ≤ length order
     → slice_get order taken ≡ Some e
     → drop certified (take taken order) ++ e ∷ [] ≡ drop certified (take (taken + 1) order)
 taken_one order certified taken e fits inside there =
     let long : certified ≤ length (take taken order) = omega (arith, length-take-le taken order inside, fits) in
-    sym (ap (λ n. drop certified (take n order)) (add-one taken)
-    ∙ ap (drop certified) (take_more order taken e there)
+    sym (ap (drop certified) (take_more order taken e (slice_get_within order taken e there)
+    ∙ ap (λ x. take taken order ++ x ∷ []) (get_or_from_slice_get order taken e e there))
     ∙ drop-append-le certified (take taken order) (e ∷ []) long)
 
 slice_take : {A : Type 0} (xs : List A) (n k : ℕ) → k < n → slice_get (take n xs) k ≡ slice_get xs k
@@ -110,23 +111,61 @@ unchanged_ring old new same = record {
 
 -- or where the one is the other but for other parts
 pub ring_by : (old new : NodeParts) → new ≡ old → KeepsRing old new
-ring_by old new same = record {
-  ring = ap (λ (n : NodeParts). n.ring) same;
-  since = ap (λ (n : NodeParts). n.since) same;
-  id = ap (λ (n : NodeParts). n.id) same;
+ring_by old new same = rw same (search rules)
+
+-- ---- a call that moves no progress but the serial and the begin number
+module _ {A : Type 0} (order : List Event) (f : ModelNode → A × ModelNode)
+    (old new : NodeParts) (answer : A) (st : Stands order old)
+    (same : (answer, plain_of new) ≡ f (plain_of old))
+    (keeps : Facts order (plain_of old) → Facts order (f (plain_of old)).1) where
+  -- the facts are those of the model's node
+  pub facts_by : Facts order (plain_of new)
+  facts_by = subst (Facts order) (ap (λ p. p.1) (sym same)) (keeps st.facts)
+
+  pub done_by : (serial begin : ℕ) → new.at ≡ record old.at { serial = serial; begin = begin }
+      → KeepsRing old new → new.inbox ≡ old.inbox → new.certification ≡ old.certification
+      → Tables order new → DoneOver order f old new answer
+  done_by serial begin at ring inbox certification tables = record {
+    same = same;
+    stands = record {
+      inbox = inbox ∙ st.inbox
+          ∙ sym (ap (λ (p : Progress). drop p.certified (take p.taken order)) at);
+      certification = subst (λ (p : Progress). Certifies order p.committed p.certified
+          new.certification) (sym at)
+          (subst (Certifies order old.at.committed old.at.certified) (sym certification)
+          st.certification);
+      tables = tables;
+      serves = serves_by order old new ring (ap (λ (p : Progress). p.taken) at)
+          (λ is. ap (λ (p : Progress). is_connected p.phase) (sym at) ∙ is) st.serves;
+      facts = facts_by;
+    };
+  }
+
+-- ---- the units
+-- one is put, which is worked on as the others are
+pub worked_put : (order : List Event) (table : UnitTable) (number : ℕ) (unit : ApplyUnit)
+    (new : Work) (room : ℕ) → AreWorked order table → IsWorked order number unit new
+    → AreWorked order (record {
+      units = insert table.units number unit;
+      work = insert table.work number new;
+      room = room;
+    })
+worked_put order table number unit new room worked own = record {
+  worked = λ q v h. each q v (inserted numbers table.units number unit q v h);
 }
+  where
+    each : (q : ℕ) (v : ApplyUnit) → Inserted numbers table.units number unit q v
+        → (work : Work) × (get (insert table.work number new) q ≡ Some work)
+        × IsWorked order q v work
+    each q v (AtKey key value) = (
+      new,
+      ap (get (insert table.work number new)) key ∙ get-put numbers table.work number new,
+      rw (key, value) own,
+    )
+    each q v (Elsewhere differs elsewhere) =
+        let other = worked.worked q v elsewhere in
+        (other.0, get-put_beside numbers table.work number new q differs ∙ other.1, other.2)
 
 -- a node that is as it was
 pub unchanged : (old new : NodeParts) → new ≡ old → Unchanged old new
-unchanged old new same = subst (Unchanged old) (sym same) (record {
-  plain = refl;
-  inbox = refl;
-  ring = refl;
-  certification = refl;
-  work = refl;
-  unit_room = refl;
-  locks = refl;
-  committed = refl;
-  changes = refl;
-  room = omega arith;
-})
+unchanged old new same = rw same (search rules)

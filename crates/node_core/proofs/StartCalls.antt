@@ -1,6 +1,6 @@
 -- Starting a unit: which step it is by what was read, and the task that it gives.
-use Rattle.std.proofs.Common.{◌≡◌, ℕ, ◌≤◌, ◌<◌, Bool, true, false, cond, List, [], length, Option, Some, None, Result, Ok, Err, refl, sym, ap, ◌∙◌, arith, true≢false}
-use Rattle.std.specs.Prelude.{OnErr, IfOk, IfErr, is_ok, is_some, unwrap_or}
+use Rattle.std.proofs.Common.{◌≡◌, ℕ, ◌≤◌, ◌<◌, true, false, List, [], length, Option, Some, None, Result, Ok, Err, refl, sym, ap, ◌∙◌, arith}
+use Rattle.std.specs.Prelude.{IfOk, IfErr, is_ok, is_some, unwrap_or}
 use Rattle.finite_map.specs.FiniteMap.{get}
 use Rattle.wsrep_base.specs.Trx.{greatest}
 use Rattle.key_sets.specs.Keys.{Keys}
@@ -13,7 +13,7 @@ use Rattle.certification.specs.Certifies.{Certifies, commit_with, changes_with, 
 use Rattle.certification.proofs.Ahead.{commit-is, changes-is}
 use Rattle.apply_unit.specs.Results.{Image}
 use Rattle.apply_unit.specs.Task.{ModelTask, task}
-use Rattle.node_meaning.specs.Node.{ModelNode, ApplyUnit, ahead, passed_at, rows_at}
+use Rattle.node_meaning.specs.Node.{ModelNode, ahead, passed_at, rows_at}
 use Rattle.node_meaning.specs.Steps.{is_local, touching_before, start_after, start_unit, start_step}
 use Rattle.node_meaning.specs.Units.{ops_at, images_of, unit_task}
 use Rattle.node_meaning.proofs.PassedLaws.{passed-committed, from_passed, none_touching}
@@ -23,44 +23,40 @@ use Rattle.node_core.specs.Stands.{Stands, DoneOver, plain_of}
 use Rattle.node_core.specs.declared.answers.Started.{Started}
 use Rattle.node_core.specs.declared.answers.Started.TheVariants as refused
 use Rattle.node_core.specs.Answers.{started_answer, GivesTask}
-use Rattle.node_core.specs.Memory.{is_start, starts, StartWants}
+use Rattle.node_core.specs.Memory.{is_start, starts}
+use Rattle.node_core.proofs.ClientCalls.{is_free}
 use Rattle.node_core.specs.Starting.{CanStart, IsStartable, IsRefused, unit_started}
 
--- what holds anyway holds where there is a fault
-pub on_err : {A B P : Type 0} (r : Result A B) → P → OnErr r P
-on_err (Ok a) holds = tt
-on_err (Err b) holds = holds
-
 -- ---- the task
+pub ops_given : (order : List Event) (node : NodeParts) (number : ℕ) (keys : Keys) (ops : List Op)
+    → CanStart order node number keys
+    → ops ≡ unwrap_or (changes_with number node.certification) [] → ops ≡ ops_at order number
+ops_given order node number keys ops can changes =
+    changes ∙ ap (λ (o : Option (List Op)). unwrap_or o [])
+    (changes-is order node.at.committed node.at.certified node.certification
+    can.stands.certification number can.above can.within (ap is_some can.is_commit))
+
 pub task_given : (order : List Event) (node : NodeParts) (number : ℕ) (keys : Keys) (ops : List Op) (images : List Image) (made : ModelTask)
     → CanStart order node number keys → ops ≡ unwrap_or (changes_with number node.certification) [] → images ≡ images_of ops node.rows.committed
     → made ≡ task number ops images → made ≡ unit_task order number
 task_given order node number keys ops images made can changes rows is =
-    let kept = changes-is order node.at.committed node.at.certified node.certification can.stands.certification number can.above can.within (ap is_some can.is_commit) in
-    let own : ops ≡ ops_at order number = changes ∙ ap (λ (o : Option (List Op)). unwrap_or o []) kept in
     let facts = can.stands.facts.in_order in
     is ∙ ap (task number ops) rows
     ∙ ap (λ r. task number ops (images_of ops r)) can.stands.tables.rows.committed
-    ∙ ap (λ (os : List Op). task number os (images_of os (rows_at order node.at.committed))) own
-    ∙ sym (task-clear order node.at.committed number (record { number = can.label; trx = can.trx; keys = keys })
-    (omega (arith, can.within, facts.certified_fits, facts.taken_fits)) can.above can.is_commit can.clear)
-
-pub ops_given : (order : List Event) (node : NodeParts) (number : ℕ) (keys : Keys) (ops : List Op)
-    → CanStart order node number keys → ops ≡ unwrap_or (changes_with number node.certification) [] → ops ≡ ops_at order number
-ops_given order node number keys ops can changes =
-    changes ∙ ap (λ (o : Option (List Op)). unwrap_or o []) (changes-is order node.at.committed node.at.certified node.certification can.stands.certification number can.above can.within (ap is_some can.is_commit))
-
--- the node stands as it did
-stays : (order : List Event) (node : NodeParts) (number : ℕ) (r : Started) → Stands order node
-    → (started_answer number r, plain_of node) ≡ start_step order (plain_of node) number
-    → is_start (started_answer number r) ≡ false → GivesTask order number r → IsRefused order node number r
-stays order node number r stands same idle task = record { done = record { same = same; stands = stands }; idle = idle; task = task }
+    ∙ ap (λ (os : List Op). task number os (images_of os (rows_at order node.at.committed)))
+    (ops_given order node number keys ops can changes)
+    ∙ sym (task-clear order node.at.committed number
+    (record { number = can.label; trx = can.trx; keys = keys })
+    (omega (arith, can.within, facts.certified_fits, facts.taken_fits)) can.above can.is_commit
+    can.clear)
 
 -- whether the unit starts, by the answer
 starts_not : (order : List Event) (node : NodeParts) (number : ℕ) (r : Started) → IsRefused order node number r → false ≡ starts order (plain_of node) number
 starts_not order node number r stays = sym stays.idle ∙ ap (λ (p : Answer × ModelNode). is_start p.0) stays.done.same
 
-starts_now : (order : List Event) (node : NodeParts) (number : ℕ) (keys : Keys) → IsStartable order node number keys → starts order (plain_of node) number ≡ true
+-- memory may be wanted then
+pub starts_now : (order : List Event) (node : NodeParts) (number : ℕ) (keys : Keys)
+    → IsStartable order node number keys → starts order (plain_of node) number ≡ true
 starts_now order node number keys may = ap (λ (p : Answer × ModelNode). is_start p.0) may.is
 
 pub starts_by : {A : Type 0} (keys : A → Keys) (node : NodeParts) (number : ℕ) (r : Result A Started)
@@ -69,10 +65,6 @@ pub starts_by : {A : Type 0} (keys : A → Keys) (node : NodeParts) (number : �
     → (order : List Event) → Stands order node → is_ok r ≡ starts order (plain_of node) number
 starts_by keys node number (Ok k) ok err order stands = sym (starts_now order node number (keys k) (ok order stands))
 starts_by keys node number (Err e) ok err order stands = starts_not order node number e (err order stands)
-
--- memory may be wanted where the unit starts
-pub wants_start : (order : List Event) (node : NodeParts) (number : ℕ) (keys : Keys) → IsStartable order node number keys → StartWants order (plain_of node) number
-wants_start order node number keys may = starts_now order node number keys may
 
 -- what the start of the unit does is what the model does
 pub starts_done : (order : List Event) (node : NodeParts) (number : ℕ) (keys : Keys) (after : NodeParts) (a : Answer) → IsStartable order node number keys
@@ -90,82 +82,75 @@ module _ (order : List Event) (node : NodeParts) (number : ℕ) (stands : Stands
   abbrev n : ModelNode
   n = plain_of node
 
-  step_by : (o : Option CommitItem) → passed_at order node.at.committed node.at.certified number ≡ o → start_step order n number ≡ start_unit order n number o
-  unfolding start_step
-  step_by o is = ap (start_unit order n number) is
-
-  no_unit_by : (o : Option CommitItem) (there : Bool) → is_some (get node.units.units number) ≡ there → there ≡ true
-      → (answer.NoUnit number, n) ≡ start_unit order n number o
-  no_unit_by None there is yes_there = refl
-  no_unit_by (Some commit) there is yes_there =
-      sym (ap (λ b. cond {A = Answer × ModelNode} b (answer.NoUnit number, n)
-      (cond {A = Answer × ModelNode} (is_local node.live number) (answer.Local number, n)
-      (start_after n number commit.keys (greatest (touching_before (ahead order node.at.committed node.at.certified) number commit.keys)))))
-      (is ∙ yes_there))
+  -- the node stands as it did
+  stays : (r : Started) → start_step order n number ≡ (started_answer number r, n)
+      → is_start (started_answer number r) ≡ false → GivesTask order number r
+      → IsRefused order node number r
+  stays r same idle task =
+      record { done = record { same = sym same; stands = stands }; idle = idle; task = task }
 
   pub start_committed : number ≤ node.at.committed → IsRefused order node number refused.NoUnit
-  start_committed done =
-      stays order node number refused.NoUnit stands
-      (sym (step_by None (passed-committed order node.at.committed node.at.certified number done))) refl tt
+  unfolding start_step
+  start_committed done = stays refused.NoUnit
+      (ap (start_unit order n number)
+      (passed-committed order node.at.committed node.at.certified number done)) refl tt
 
-  pub start_again : is_some (get node.units.units number) ≡ true → IsRefused order node number refused.NoUnit
-  start_again there =
-      stays order node number refused.NoUnit stands
-      (no_unit_by (passed_at order node.at.committed node.at.certified number) (is_some (get node.units.units number)) refl there
-      ∙ sym (step_by (passed_at order node.at.committed node.at.certified number) refl)) refl tt
+  pub start_again : is_some (get node.units.units number) ≡ true
+      → IsRefused order node number refused.NoUnit
+  unfolding start_step
+  start_again there = stays refused.NoUnit
+      (by (passed_at order node.at.committed node.at.certified number)) refl tt
+    where
+      by : (o : Option CommitItem) → start_unit order n number o ≡ (answer.NoUnit number, n)
+      by None = refl
+      by (Some commit) = rw there refl
 
   module _ (above : node.at.committed < number) where
-    read_is : passed_at order node.at.committed node.at.certified number ≡ commit_with number node.certification
-    read_is = sym (commit-is order node.at.committed node.at.certified node.certification stands.certification number above)
+    step_is : (o : Option CommitItem) → commit_with number node.certification ≡ o
+        → start_step order n number ≡ start_unit order n number o
+    unfolding start_step
+    step_is o is = ap (start_unit order n number)
+        (sym (commit-is order node.at.committed node.at.certified node.certification
+        stands.certification number above) ∙ is)
 
-    pub start_nothing : commit_with number node.certification ≡ None → IsRefused order node number refused.NoUnit
-    start_nothing none = stays order node number refused.NoUnit stands (sym (step_by None (read_is ∙ none))) refl tt
+    pub start_nothing : commit_with number node.certification ≡ None
+        → IsRefused order node number refused.NoUnit
+    start_nothing none = stays refused.NoUnit (step_is None none) refl tt
 
     module _ (commit : CommitItem) (found : commit_with number node.certification ≡ Some commit)
         (fresh : is_some (get node.units.units number) ≡ false) where
-      step_is : start_step order n number
-          ≡ cond {A = Answer × ModelNode} (is_local node.live number) (answer.Local number, n)
-          (start_after n number commit.keys (greatest (touching_before (ahead order node.at.committed node.at.certified) number commit.keys)))
-      step_is =
-          step_by (Some commit) (read_is ∙ found)
-          ∙ ap (λ b. cond {A = Answer × ModelNode} b (answer.NoUnit number, n)
-          (cond {A = Answer × ModelNode} (is_local node.live number) (answer.Local number, n)
-          (start_after n number commit.keys (greatest (touching_before (ahead order node.at.committed node.at.certified) number commit.keys)))))
-          fresh
-
-      pub start_local : is_local node.live number ≡ true → IsRefused order node number refused.Local
+      pub start_local : is_local node.live number ≡ true
+          → IsRefused order node number refused.Local
       start_local here =
-          stays order node number refused.Local stands
-          (sym (step_is ∙ ap (λ b. cond {A = Answer × ModelNode} b (answer.Local number, n)
-          (start_after n number commit.keys (greatest (touching_before (ahead order node.at.committed node.at.certified) number commit.keys)))) here)) refl tt
+          stays refused.Local (rw (fresh, here) at (step_is (Some commit) found)) refl tt
 
       module _ (remote : is_local node.live number ≡ false) (way : Option ℕ)
           (seen : SeesWay node number way) where
-        way_is : greatest (touching_before (ahead order node.at.committed node.at.certified) number commit.keys) ≡ way
-        way_is =
-            sym (seen order node.at.committed node.at.certified commit stands.certification above (read_is ∙ found))
+        read_is : passed_at order node.at.committed node.at.certified number ≡ Some commit
+        read_is = sym (commit-is order node.at.committed node.at.certified node.certification
+            stands.certification number above) ∙ found
+
+        way_is : greatest (touching_before (ahead order node.at.committed node.at.certified) number
+            commit.keys) ≡ way
+        way_is = sym (seen order node.at.committed node.at.certified commit stands.certification
+            above read_is)
 
         after_is : start_step order n number ≡ start_after n number commit.keys way
-        after_is =
-            step_is
-            ∙ ap (λ b. cond {A = Answer × ModelNode} b (answer.Local number, n)
-            (start_after n number commit.keys (greatest (touching_before (ahead order node.at.committed node.at.certified) number commit.keys)))) remote
+        after_is = rw (fresh, remote) at (step_is (Some commit) found)
             ∙ ap (start_after n number commit.keys) way_is
 
-        pub start_later : (earlier : ℕ) → way ≡ Some earlier → IsRefused order node number (refused.NotYet earlier)
-        start_later earlier is =
-            stays order node number (refused.NotYet earlier) stands (sym (after_is ∙ ap (start_after n number commit.keys) is)) refl tt
-
-        none_from : (o : Option ApplyUnit) → is_some o ≡ false → o ≡ None
-        none_from None h = refl
-        none_from (Some u) h = absurd (true≢false h)
+        pub start_later : (earlier : ℕ) → way ≡ Some earlier
+            → IsRefused order node number (refused.NotYet earlier)
+        start_later earlier is = stays (refused.NotYet earlier)
+            (after_is ∙ ap (start_after n number commit.keys) is) refl tt
 
         certified_inside : node.at.certified ≤ length order
         certified_inside = omega (arith, stands.facts.in_order.certified_fits, stands.facts.in_order.taken_fits)
 
         can_start : way ≡ None → CanStart order node number commit.keys
         can_start none =
-            let passed = from_passed order node.at.committed node.at.certified number commit certified_inside (read_is ∙ found) in
+            let passed = from_passed order node.at.committed node.at.certified number commit
+            certified_inside read_is in
             record {
               stands = stands;
               above = above;
@@ -173,7 +158,7 @@ module _ (order : List Event) (node : NodeParts) (number : ℕ) (stands : Stands
               label = commit.number;
               trx = commit.trx;
               is_commit = passed.is_commit;
-              fresh = none_from (get node.units.units number) fresh;
+              fresh = is_free (get node.units.units number) fresh;
               remote = remote;
               clear = none_touching order node.at.committed node.at.certified number commit.keys certified_inside passed.within (way_is ∙ none);
             }

@@ -1,7 +1,9 @@
 -- What a statement that changes a row leaves of a table of rows.
-use Rattle.std.proofs.Common.{◌≡◌, ℕ, Bool, true, false, List, [], ◌∷◌, ◌++◌, refl, sym, ap, subst, ◌∙◌, cond, ◌||◌, ◌&&◌, true≢false}
+use Rattle.std.proofs.Common.{◌≡◌, ℕ, Bool, true, false, List, [], ◌∷◌, ◌++◌, refl, sym, ap, ◌∙◌, cond, ◌||◌, ◌&&◌, true≢false}
 use Rattle.std.specs.Prelude.{Option, Some, None, ◌==◌}
+use Rattle.std.proofs.Math.Bool.{or-false}
 use Rattle.std.proofs.lemmas.Bool.{eq-eqb, false_from_ne_true}
+use Rattle.std.proofs.lemmas.List.Folds.{list_any-append}
 use Rattle.std.specs.Ordering.{nat_cmp, eq_by_cmp}
 use Rattle.std.specs.List.{list_any}
 use Rattle.std.proofs.lemmas.Cmp.{eq_by_cmp_equiv}
@@ -9,7 +11,7 @@ use Rattle.finite_map.proofs.Edits.{numbers, tied}
 use Rattle.finite_map.specs.FiniteMap.{FiniteMap, empty, get, insert, get-insert}
 use Rattle.key_sets.specs.declared.kind.Kind.{Kind}
 use Rattle.key_sets.specs.declared.parts.Parts.{Parts}
-use Rattle.key_sets.specs.Keys.{Keys, touches, one_key}
+use Rattle.key_sets.specs.Keys.{touches, one_key}
 use Rattle.key_sets.specs.Meeting.{covers, is_change}
 use Rattle.key_sets.proofs.KeyLaws.{covers_one_key, conflicts_from_covers, touches_from_conflicts}
 use Rattle.row_model.specs.declared.row.RowId.{RowId}
@@ -29,30 +31,17 @@ use Rattle.undo_rows.specs.RowTable.{RowTable, Change, seen, other_owner}
 use Rattle.order_event.specs.declared.event.Event.{Event}
 use Rattle.node_meaning.specs.Node.{ModelNode, locks_of}
 use Rattle.node_meaning.specs.Facts.{Facts}
-use Rattle.cert_meaning.proofs.CoveredLaws.{AllCovered, all_from_rules}
+use Rattle.cert_meaning.proofs.CoveredLaws.{all_from_rules}
 use Rattle.node_meaning.proofs.LockLaws.{keys_at-session, keys_of_live, free-blocker}
+use Rattle.node_core.proofs.UnitRows.{covered_row}
 use Rattle.node_core.specs.Tabled.{Tabled, changes_row, made_by, shown_of}
 use Rattle.node_core.proofs.Tabling.{sees, own_shown, not_other, made-from, put_at, tabled-edited}
 
-no_both : (b : Bool) → b ≡ true → b ≡ false → ⊥
-no_both true t f = absurd (true≢false f)
-no_both false t f = absurd (true≢false (sym t))
-
-none_some : {A : Type 0} (a : A) → Some a ≡ None → ⊥
-none_some a e = cc
-
 -- ---- a change more
-any_more : (test : Op → Bool) (ops : List Op) (o : Op) → list_any test (ops ++ o ∷ []) ≡ list_any test ops || test o
-any_more test [] o = last (test o)
-  where
-    last : (b : Bool) → b || false ≡ b
-    last true = refl
-    last false = refl
-any_more test (x ∷ ops) o = ap (λ b. test x || b) (any_more test ops o) ∙ grouped (test x) (list_any test ops) (test o)
-  where
-    grouped : (a b c : Bool) → a || (b || c) ≡ (a || b) || c
-    grouped true b c = refl
-    grouped false b c = refl
+any_more : (test : Op → Bool) (ops : List Op) (o : Op)
+    → list_any test (ops ++ o ∷ []) ≡ list_any test ops || test o
+any_more test ops o =
+    list_any-append test ops (o ∷ []) ∙ ap (λ b. list_any test ops || b) (or-false (test o))
 
 row_more : (rows : Rows) (ops : List Op) (o : Op) (id : RowId)
     → get (ops_on (ops ++ o ∷ []) rows) id
@@ -88,7 +77,7 @@ not_shown s q (Some c) other none = by (c.0 == s) refl none
   where
     by : (b : Bool) → (c.0 == s) ≡ b → cond b None (Some c.0) ≡ None → shown_of q (Some c) ≡ None
     by true own none = ap (λ b. cond b (Some c.1) None) (not_other c.0 q s other own)
-    by false own none = absurd (none_some c.0 none)
+    by false own none = cc
 
 module _ (rows : Rows) (live : FiniteMap nat_cmp Live) (table after : RowTable) (tabled : Tabled rows live table) (s : ℕ) (t u : Live)
     (o : Op) (there : get live s ≡ Some t) (locks : has_locks t.status ≡ true) (ops : u.ops ≡ t.ops ++ o ∷ [])
@@ -132,27 +121,11 @@ module _ (rows : Rows) (live : FiniteMap nat_cmp Live) (table after : RowTable) 
       own others (λ q id other. refl)
 
 -- ---- a row that a free key names is changed by no other session
-first_or_rest : (keys : Keys) (id : RowId) (o : Op) (ops : List Op) → AllCovered keys (o ∷ ops) → (b : Bool) → names_row id o ≡ b
-    → names_row id o || changes_row id ops ≡ true → (changes_row id ops ≡ true → covers keys (row_parts id) ≡ true)
-    → covers keys (row_parts id) ≡ true
-first_or_rest keys id o ops all true named names rest =
-    subst (λ (q : RowId). covers keys (row_parts q) ≡ true) (row_same (id_of o) id named) all.0
-first_or_rest keys id o ops all false named names rest =
-    rest (ap (λ b. b || changes_row id ops) (sym named) ∙ names)
-
-covers_changed : (keys : Keys) (id : RowId) (ops : List Op) → AllCovered keys ops → changes_row id ops ≡ true
-    → covers keys (row_parts id) ≡ true
-covers_changed keys id [] all names = absurd (true≢false (sym names))
-covers_changed keys id (o ∷ ops) all names =
-    first_or_rest keys id o ops all (names_row id o) refl names (covers_changed keys id ops all.1)
-
 -- a change has a key that changes its row
 pub key_changes : (p : Parts) (k : Kind) (o : Op) → IsKeyOf p k o → (p ≡ row_parts (id_of o)) × (is_change (Some k) ≡ true)
 key_changes p k (op.Insert id row) own =
     (ap (λ (e : Parts × Kind). e.0) own.key, ap (λ (e : Parts × Kind). is_change (Some e.1)) own.key)
-key_changes p k (op.Update id change) own =
-    (ap (λ (e : Parts × Kind). e.0) own.key, ap (λ (e : Parts × Kind). is_change (Some e.1)) own.key)
-key_changes p k (op.Delete id) own =
+key_changes p k _ own =
     (ap (λ (e : Parts × Kind). e.0) own.key, ap (λ (e : Parts × Kind). is_change (Some e.1)) own.key)
 
 pub free_row : (order : List Event) (n : ModelNode) (rows : Rows) (table : RowTable) → Facts order n → Tabled rows n.live table
@@ -165,11 +138,12 @@ free_row order n rows table f tabled s id k changes none = by (get table.changes
         let locks = locks_of n.live n.units in
         let fit = (f.sendable o t is).fit in
         let covered : covers t.keys (row_parts id) ≡ true =
-        covers_changed t.keys id t.ops (all_from_rules 0 t.keys t.ops fit.covered) names in
+        covered_row t.keys t.ops id (all_from_rules 0 t.keys t.ops fit.covered) names in
         let at : keys_at locks (Session o) ≡ t.keys =
         keys_at-session n.live n.units o ∙ ap keys_of_live is ∙ ap (λ b. cond b t.keys empty) locked in
         let apart : same_holder (Session s) (Session o) ≡ false =
-        false_from_ne_true (eq_by_cmp nat_cmp s o) (λ tie. no_both (o == s) (eq-eqb o s (sym (tied numbers s o tie))) differs) in
+        false_from_ne_true (eq_by_cmp nat_cmp s o) (λ tie.
+        true≢false (sym (eq-eqb o s (sym (tied numbers s o tie))) ∙ differs)) in
         true≢false (sym (touches_from_conflicts (one_key (row_parts id) k) t.keys
         (conflicts_from_covers (one_key (row_parts id) k) t.keys (row_parts id) id.row refl
         (covers_one_key (row_parts id) k changes) covered))

@@ -3,10 +3,9 @@ use Rattle.std.proofs.Common.{◌≡◌, ℕ, Bool, true, false, List, refl, sym
 use Rattle.std.specs.Prelude.{Option, Some, None, cond, not, ◌==◌, ◌&&◌}
 use Rattle.std.specs.Option.{unwrap_or}
 use Rattle.std.specs.Ordering.{nat_cmp, eq_by_cmp}
-use Rattle.std.specs.Cmp.{nat_cmp_total}
 use Rattle.std.proofs.lemmas.Bool.{eqb-true, eq-eqb, false_from_ne_true}
-use Rattle.finite_map.proofs.Edits.{numbers, tied, itself, untied}
-use Rattle.finite_map.specs.FiniteMap.{FiniteMap, get, insert, remove, get-insert, get-remove, same_map}
+use Rattle.finite_map.proofs.Edits.{numbers, tied, untied, get-put, get-put_beside, get-taken, get-taken_beside}
+use Rattle.finite_map.specs.FiniteMap.{FiniteMap, get, insert, remove, same_map}
 use Rattle.row_model.specs.declared.row.RowId.{RowId}
 use Rattle.row_model.specs.Rows.{Rows, ops_on}
 use Rattle.row_model.specs.RowOrder.{row_total, row_exact}
@@ -126,16 +125,12 @@ pub record LiveAt (live new : FiniteMap nat_cmp Live) (s : ℕ) (o : Option Live
   pub others : (q : ℕ) → eq_by_cmp nat_cmp q s ≡ false → get new q ≡ get live q
 
 pub put_at : (live : FiniteMap nat_cmp Live) (s : ℕ) (u : Live) → LiveAt live (insert live s u) s (Some u)
-put_at live s u = record {
-  own = get-insert nat_cmp_total live s u s ∙ ap (λ b. cond b (Some u) (get live s)) (itself numbers s);
-  others = λ q other. get-insert nat_cmp_total live s u q ∙ ap (λ b. cond b (Some u) (get live q)) other;
-}
+put_at live s u =
+    record { own = get-put numbers live s u; others = get-put_beside numbers live s u }
 
 pub ended_at : (live : FiniteMap nat_cmp Live) (s : ℕ) → LiveAt live (remove live s) s None
-ended_at live s = record {
-  own = get-remove nat_cmp_total live s s ∙ ap (λ b. cond b None (get live s)) (itself numbers s);
-  others = λ q other. get-remove nat_cmp_total live s q ∙ ap (λ b. cond b None (get live q)) other;
-}
+ended_at live s =
+    record { own = get-taken numbers live s; others = get-taken_beside numbers live s }
 
 module _ (rows : Rows) (live : FiniteMap nat_cmp Live) (table after : RowTable) (tabled : Tabled rows live table) where
   -- after an edit at a session the table shows what the session made, and of the others what it showed

@@ -1,5 +1,5 @@
 -- The rows of a finished unit: no live transaction with locks changes them, and its results are the rows after it.
-use Rattle.std.proofs.Common.{◌≡◌, ℕ, suc, Bool, true, false, cond, List, [], ◌∷◌, length, map, Option, None, Some, refl, ap, sym, subst, ◌∙◌, arith, true≢false}
+use Rattle.std.proofs.Common.{◌≡◌, ℕ, Bool, true, false, cond, List, [], ◌∷◌, length, map, Option, None, Some, refl, ap, sym, subst, ◌∙◌, arith, true≢false}
 use Rattle.std.specs.Prelude.{◌||◌}
 use Rattle.std.specs.List.{list_any, AllByRecursion}
 use Rattle.std.proofs.lemmas.Bool.{false_from_ne_true}
@@ -12,7 +12,9 @@ use Rattle.row_model.specs.declared.ops.Op.{Op}
 use Rattle.row_model.specs.Rows.{Rows, ops_on, id_of}
 use Rattle.row_model.specs.RowOrder.{row_same}
 use Rattle.write_set.specs.Rules.{row_parts}
-use Rattle.apply_unit.specs.RowChanges.{names_row}
+use Rattle.std.proofs.lemmas.List.{length-map}
+use Rattle.apply_unit.specs.RowChanges.{names_row, row_after_ops}
+use Rattle.node_core.proofs.ImageCalls.{count_images}
 use Rattle.apply_unit.specs.Results.{Image, computed}
 use Rattle.apply_unit.specs.Task.{ModelTask}
 use Rattle.apply_unit.proofs.RowLemmas.{get-unnamed}
@@ -23,7 +25,7 @@ use Rattle.undo_rows.specs.RowTable.{RowTable}
 use Rattle.order_event.specs.declared.event.Event.{Event}
 use Rattle.cert_meaning.proofs.CoveredLaws.{AllCovered, all_from_rules}
 use Rattle.node_meaning.specs.Node.{ModelNode, ApplyUnit, locks_of, rows_at}
-use Rattle.node_meaning.specs.Units.{ops_at, unit_task, named_rows}
+use Rattle.node_meaning.specs.Units.{ops_at, unit_task, named_rows, images_of}
 use Rattle.node_meaning.specs.Facts.{Facts}
 use Rattle.node_meaning.proofs.LockLaws.{keys_of_live, keys_of_unit, keys_at-session, keys_at-unit}
 use Rattle.node_meaning.proofs.UnitLaws.{ops_covered, places_covered, task-unit}
@@ -32,16 +34,18 @@ use Rattle.node_core.specs.Tabled.{Tabled, changes_row, made_by, shown_of}
 use Rattle.node_core.proofs.Tabling.{made-from, own_shown}
 
 -- changes that keys cover name only rows that the keys cover
-covered_row : (keys : Keys) (ops : List Op) (id : RowId) → AllCovered keys ops → list_any (names_row id) ops ≡ true
-    → covers keys (row_parts id) ≡ true
+pub covered_row : (keys : Keys) (ops : List Op) (id : RowId) → AllCovered keys ops
+    → list_any (names_row id) ops ≡ true → covers keys (row_parts id) ≡ true
 covered_row keys [] id all names = cc
-covered_row keys (op ∷ ops) id all names = by_first keys op ops id all (covered_row keys ops id all.1) (names_row id op) refl names
+covered_row keys (op ∷ ops) id all names =
+    by (covered_row keys ops id all.1) (names_row id op) refl names
   where
-    by_first : (keys : Keys) (op : Op) (ops : List Op) (id : RowId) → AllCovered keys (op ∷ ops)
-        → (list_any (names_row id) ops ≡ true → covers keys (row_parts id) ≡ true)
-        → (b : Bool) → names_row id op ≡ b → b || list_any (names_row id) ops ≡ true → covers keys (row_parts id) ≡ true
-    by_first keys op ops id all later true is any = subst (λ (r : RowId). covers keys (row_parts r) ≡ true) (row_same (id_of op) id is) all.0
-    by_first keys op ops id all later false is any = later any
+    by : (list_any (names_row id) ops ≡ true → covers keys (row_parts id) ≡ true)
+        → (b : Bool) → names_row id op ≡ b → b || list_any (names_row id) ops ≡ true
+        → covers keys (row_parts id) ≡ true
+    by later true is any =
+        subst (λ (r : RowId). covers keys (row_parts r) ≡ true) (row_same (id_of op) id is) all.0
+    by later false is any = later any
 
 module _ (order : List Event) (n : ModelNode) (facts : Facts order n) (number : ℕ) (u : ApplyUnit) (unit : get n.units number ≡ Some u) where
   unit_covered : AllCovered u.keys (ops_at order number)
@@ -96,13 +100,11 @@ module _ (order : List Event) (n : ModelNode) (facts : Facts order n) (number : 
       (places_covered u.keys (ops_at order number) unit_covered))
 
 -- as many results as rows that the changes name
-length_mapped : (ops : List Op) (rows : Rows) (ids : List RowId)
-    → length (computed ops (map {B = Image} (λ (id : RowId). (id, get rows id)) ids)) ≡ length ids
-length_mapped ops rows [] = refl
-length_mapped ops rows (id ∷ ids) = ap suc (length_mapped ops rows ids)
-
 pub unit_length : (order : List Event) (n : ModelNode) (facts : Facts order n) (number : ℕ) (u : ApplyUnit) → get n.units number ≡ Some u
     → length (results_of (Some (unit_task order number))) ≡ length (named_rows (ops_at order number))
 unit_length order n facts number u unit =
+    let ops = ops_at order number in
     ap (λ (t : ModelTask). length (results_of (Some t))) (task-unit order n number u facts unit)
-    ∙ length_mapped (ops_at order number) (rows_at order n.at.committed) (named_rows (ops_at order number))
+    ∙ length-map (images_of ops (rows_at order n.at.committed))
+    (λ (image : Image). (image.0, row_after_ops image.0 ops image.1))
+    ∙ count_images ops (rows_at order n.at.committed)

@@ -9,7 +9,6 @@ use node_parts::session_of;
 use order_event::Event;
 use row_locks::Holder;
 use undo_rows::Rows;
-use write_set::WriteSet;
 use wsrep_base::{Judged, NoMemory, Verdict};
 
 impl NodeParts {
@@ -37,19 +36,20 @@ impl NodeParts {
         self.inbox.drop_first();
         self.at.certified += 1;
         let number = self.at.certified;
-        self.tell_own(is_own, told.set, number, verdict_of(told.judged));
+        self.tell_own(is_own, told.begin, number, verdict_of(told.judged));
         Ok(Certified::Judged(number, told.judged))
     }
 
-    // Where the write set is the node's own, the transaction that sent it is told the verdict.
-    fn tell_own(&mut self, is_own: bool, set: Option<WriteSet>, number: u64, verdict: Verdict)
-        ensures { Moves (told_if is_own set number verdict) self.old self.new }
+    // Where the write set is the node's own, the transaction with its begin number is told the
+    // verdict.
+    fn tell_own(&mut self, is_own: bool, begin: Option<u64>, number: u64, verdict: Verdict)
+        ensures { Moves (told_if is_own begin number verdict) self.old self.new }
     {
         if !is_own {
             return;
         }
-        match set {
-            Some(set) => self.tell(number, set.begin, verdict),
+        match begin {
+            Some(begin) => self.tell(number, begin, verdict),
             None => {}
         }
     }

@@ -1,5 +1,6 @@
-ghost use Rattle.std.specs.Prelude.{◌≡◌, ◌≤◌, ◌<◌, ◌^◌, List, is_none, is_some, IfSome, IfOk, OnOk, OnErr, IsTrue, false};
+ghost use Rattle.std.specs.Prelude.{◌≡◌, ◌≤◌, ◌<◌, List, is_none, is_some, IfSome, IfOk, OnOk, OnErr, IsTrue, false};
 ghost use Rattle.finite_map.specs.FiniteMap.{get};
+ghost use Rattle.wsrep_base.specs.declared.limits.TheConstants.{NUMBERS_END};
 
 use crate::node::NodeParts;
 use crate::ranges::progress_in_range;
@@ -30,8 +31,8 @@ impl NodeParts {
         requires stands { IsStanding self.old }
         requires session { (1 ≤ session) × (session ≤ 32) }
         requires names { IsTrue (call_fits call.now) }
-        requires serial { self.old.at.serial < 2 ^ 63 }
-        requires begin { self.old.at.begin < 2 ^ 63 }
+        requires serial { self.old.at.serial < NUMBERS_END }
+        requires begin { self.old.at.begin < NUMBERS_END }
         ensures ok { IfOk result
             (Does (λ order n. client order n session call.now) self.old self.new) }
         ensures err { OnErr result (Unchanged self.old self.new) }
@@ -77,8 +78,8 @@ impl NodeParts {
         requires session { (1 ≤ session) × (session ≤ 32) }
         requires running { is_pending (get self.old.live session) ≡ false }
         requires names { IsTrue (call_fits call.now) }
-        requires serial { self.old.at.serial < 2 ^ 63 }
-        requires begin { self.old.at.begin < 2 ^ 63 }
+        requires serial { self.old.at.serial < NUMBERS_END }
+        requires begin { self.old.at.begin < NUMBERS_END }
         ensures ok { IfOk result
             (Does
             (λ order n. served order n session (get n.live session) call.now) self.old self.new) }
@@ -108,7 +109,7 @@ impl NodeParts {
     // it sends none.
     fn begin(&mut self, session: u8, unit: u64) -> Result<Reply, NoMemory>
         requires session { (1 ≤ session) × (session ≤ 32) }
-        requires begin { self.old.at.begin < 2 ^ 63 }
+        requires begin { self.old.at.begin < NUMBERS_END }
         ensures ok { IfOk result
             (Does (λ order n. begin_call n session unit (get n.live session)) self.old self.new) }
         ensures err { OnErr result (Unchanged self.old self.new) }
@@ -151,7 +152,7 @@ impl NodeParts {
         requires stands { IsStanding self.old }
         requires session { (1 ≤ session) × (session ≤ 32) }
         requires running { is_pending (get self.old.live session) ≡ false }
-        requires serial { self.old.at.serial < 2 ^ 63 }
+        requires serial { self.old.at.serial < NUMBERS_END }
         ensures ok { IfOk result
             (Does (λ order n. commit_call n session (get n.live session)) self.old self.new) }
         ensures err { OnErr result (Unchanged self.old self.new) }
@@ -190,7 +191,7 @@ impl NodeParts {
 
     // The session's transaction ends; where it ever sent a fragment, a rollback is sent first.
     fn roll_back(&mut self, session: u8) -> Result<Reply, NoMemory>
-        requires serial { self.old.at.serial < 2 ^ 63 }
+        requires serial { self.old.at.serial < NUMBERS_END }
         ensures ok { IfOk result
             (Does (λ order n. rollback_call n session (get n.live session)) self.old self.new) }
         ensures err { OnErr result (Unchanged self.old self.new) }
@@ -208,7 +209,7 @@ impl NodeParts {
 
     // Sends the write set, if there is one.
     fn send_any(&mut self, set: &Option<WriteSet>) -> Result<(), NoMemory>
-        requires serial { self.old.at.serial < 2 ^ 63 }
+        requires serial { self.old.at.serial < NUMBERS_END }
         requires valid { IfSome set.now (λ set. IsTrue (obeys set)) }
         ensures ok { OnOk result (self.new ≡ node_sent_any self.old set.now) }
         ensures err { OnErr result (self.new ≡ self.old) }
@@ -222,7 +223,7 @@ impl NodeParts {
 
     /// Sends the write set with the next serial: its message waits to be ordered.
     pub(crate) fn send(&mut self, set: &WriteSet) -> Result<(), NoMemory>
-        requires serial { self.old.at.serial < 2 ^ 63 }
+        requires serial { self.old.at.serial < NUMBERS_END }
         requires valid { IsTrue (obeys set.now) }
         ensures ok { OnOk result (self.new ≡ node_sent self.old set.now) }
         ensures err { OnErr result (self.new ≡ self.old) }

@@ -1,5 +1,6 @@
-ghost use Rattle.std.specs.Prelude.{◌≡◌, ◌<◌, ◌+◌, ◌^◌, length, OnOk, OnErr};
+ghost use Rattle.std.specs.Prelude.{◌≡◌, ◌<◌, ◌+◌, length, OnOk, OnErr};
 ghost use Rattle.std.specs.List.{AllByRecursion};
+ghost use Rattle.wsrep_base.specs.declared.limits.TheConstants.{NUMBERS_END};
 
 use crate::node::NodeParts;
 use order_event::{Event, EventList};
@@ -11,7 +12,7 @@ impl NodeParts {
 
     /// The event is put behind the others of the inbox, and pushed to the ring.
     pub(crate) fn keep_event(&mut self, event: &Event) -> Result<(), NoMemory>
-        requires last { self.old.ring.last < 2 ^ 63 }
+        requires last { self.old.ring.last < NUMBERS_END }
         requires members { HasFewMembers event.now }
         ensures ok { OnOk result (self.new ≡ kept self.old event.now) }
         ensures err { OnErr result (self.new ≡ self.old) }
@@ -29,7 +30,7 @@ impl NodeParts {
 
     /// The events are put behind the others of the inbox, and pushed to the ring.
     pub(crate) fn keep_events(&mut self, events: &EventList) -> Result<(), NoMemory>
-        requires last { self.old.ring.last + length events.now < 2 ^ 63 }
+        requires last { self.old.ring.last + length events.now < NUMBERS_END }
         requires members { AllByRecursion HasFewMembers events.now }
         ensures ok { OnOk result (self.new ≡ all_kept self.old events.now) }
         ensures err { OnErr result (self.new ≡ self.old) }

@@ -1,4 +1,5 @@
 ghost use Rattle.std.specs.Prelude.{◌≡◌, ◌≢◌, ◌≤◌, ◌<◌, List, length, IfOk};
+ghost use Rattle.wsrep_base.specs.declared.limits.TheConstants.{MOST_RING_BYTES};
 
 use certification::Certification;
 use client_trx::Trx;
@@ -50,7 +51,7 @@ impl NodeParts {
         gcache: u64,
     ) -> Result<NodeParts, NoMemory>
         requires id { id ≢ nil_id }
-        requires ring { gcache ≤ 16_777_216 }
+        requires ring { gcache ≤ MOST_RING_BYTES }
         ensures start { IfOk result (λ node. plain_of node ≡ start_node gcache id member) }
         ensures stands { IfOk result (λ node. (order : List Event) → Stands order node) }
     {

@@ -1,6 +1,7 @@
 ghost use Rattle.std.specs.Prelude.{◌≡◌, ◌+◌, ◌<◌, ◌≤◌, ◌^◌, List, [], None, length, fold, IfOk, OnOk, IfErr, OnErr, IsTrue};
 ghost use Rattle.std.specs.Option.{unwrap_or};
 ghost use Rattle.finite_map.specs.FiniteMap.{get};
+ghost use Rattle.wsrep_base.specs.declared.limits.TheConstants.{NUMBERS_END};
 
 use crate::answers::Started;
 use crate::node::NodeParts;
@@ -34,7 +35,7 @@ impl NodeParts {
     /// Starts the unit of the passed commit with this number. All memory is taken first.
     pub(crate) fn start(&mut self, number: u64) -> Result<Started, NoMemory>
         requires stands { IsStanding self.old }
-        requires serial { self.old.at.serial < 2 ^ 63 }
+        requires serial { self.old.at.serial < NUMBERS_END }
         ensures ok { IfOk result
             (λ r. Does (λ order n. start_step order n number) self.old self.new
             (started_answer number r)) }
@@ -87,7 +88,7 @@ impl NodeParts {
     // Nothing stands in the way of the unit.
     fn start_unit(&mut self, number: u64, keys: KeySet) -> Result<Started, NoMemory>
         requires can { (order : List Event) × CanStart order self.old number keys }
-        requires serial { self.old.at.serial < 2 ^ 63 }
+        requires serial { self.old.at.serial < NUMBERS_END }
         ensures ok { IfOk result
             (λ r. (order : List Event) → CanStart order self.old number keys
             → IsStartedOver order number keys self.old self.new r) }
@@ -109,7 +110,7 @@ impl NodeParts {
         rows: usize,
     ) -> Result<SessionList, NoMemory>
         requires can { (order : List Event) × CanStart order self.old number keys }
-        requires serial { self.old.at.serial < 2 ^ 63 }
+        requires serial { self.old.at.serial < NUMBERS_END }
         ensures ok { IfOk result
             (λ aborted. (order : List Event) → CanStart order self.old number keys
             → rows ≡ length (named_rows (ops_at order number))
@@ -157,7 +158,7 @@ impl NodeParts {
 
     // The rollbacks that the ends of these sessions' transactions leave, from the next serial on.
     fn rollbacks(&self, sessions: &[u8]) -> Result<MessageList, NoMemory>
-        requires serial { self.now.at.serial < 2 ^ 63 }
+        requires serial { self.now.at.serial < NUMBERS_END }
         ensures sent { IfOk result (λ sent. fold send_rollback (plain_of self.now) sessions.now
             ≡ with_sent (plain_of self.now) sent.items) }
         ensures few { IfOk result (λ sent. length sent.items < 2 ^ 63) }

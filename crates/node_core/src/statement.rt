@@ -1,5 +1,6 @@
-ghost use Rattle.std.specs.Prelude.{◌≡◌, ◌≤◌, ◌<◌, ◌^◌, ◌+◌, List, Option, Some, None, is_some, IfOk, IfSome, OnOk, OnErr, IsTrue, false, option_map};
+ghost use Rattle.std.specs.Prelude.{◌≡◌, ◌≤◌, ◌<◌, ◌+◌, List, Option, Some, None, is_some, IfOk, IfSome, OnOk, OnErr, IsTrue, false, option_map};
 ghost use Rattle.finite_map.specs.FiniteMap.{get};
+ghost use Rattle.wsrep_base.specs.declared.limits.TheConstants.{NUMBERS_END};
 ghost use Rattle.key_sets.specs.Keys.{one_key};
 ghost use Rattle.write_set.specs.Rules.{row_parts};
 ghost use Rattle.node_core.specs.Statement.{reply_after};
@@ -41,7 +42,7 @@ impl NodeParts {
         requires stands { IsStanding self.old }
         requires session { (1 ≤ session) × (session ≤ 32) }
         requires running { is_pending (get self.old.live session) ≡ false }
-        requires serial { self.old.at.serial < 2 ^ 63 }
+        requires serial { self.old.at.serial < NUMBERS_END }
         requires names { IsTrue (place_fits id.now) }
         requires change { IfSome change (IsKeyOf (row_parts id.now) kind) }
         ensures ok { IfOk result
@@ -91,7 +92,7 @@ impl NodeParts {
     ) -> Result<Reply, NoMemory>
         requires session { (1 ≤ session) × (session ≤ 32) }
         requires running { is_pending (get self.old.live session) ≡ false }
-        requires serial { self.old.at.serial < 2 ^ 63 }
+        requires serial { self.old.at.serial < NUMBERS_END }
         requires names { IsTrue (place_fits id.now) }
         requires change { IfSome change (IsKeyOf (row_parts id.now) kind) }
         requires met { Some met
@@ -139,7 +140,7 @@ impl NodeParts {
     ) -> Result<Added, NoMemory>
         requires session { (1 ≤ session) × (session ≤ 32) }
         requires running { is_pending (get self.old.live session) ≡ false }
-        requires serial { self.old.at.serial < 2 ^ 63 }
+        requires serial { self.old.at.serial < NUMBERS_END }
         requires names { IsTrue (parts_fit parts.now) }
         requires change { IfSome change (IsKeyOf parts.now kind) }
         ensures ok { IfOk result
@@ -167,7 +168,7 @@ impl NodeParts {
         change: Option<Op>,
     ) -> Result<Added, NoMemory>
         requires running { trx.old.status ≡ status.Running }
-        requires serial { self.old.at.serial < 2 ^ 63 }
+        requires serial { self.old.at.serial < NUMBERS_END }
         requires names { IsTrue (parts_fit parts.now) }
         requires change { IfSome change (IsKeyOf parts.now kind) }
         ensures ok { IfOk result

@@ -1,5 +1,6 @@
-ghost use Rattle.std.specs.Prelude.{◌≡◌, ◌<◌, ◌^◌, ◌+◌, ℕ, List, Some, slice_get, IfOk, OnErr};
+ghost use Rattle.std.specs.Prelude.{◌≡◌, ◌<◌, ◌+◌, ℕ, List, Some, slice_get, IfOk, OnErr};
 ghost use Rattle.std.specs.List.{find};
+ghost use Rattle.wsrep_base.specs.declared.limits.TheConstants.{NUMBERS_END};
 ghost use Rattle.node_meaning.specs.Node.{is_connected};
 
 use crate::answers::Taken;
@@ -23,7 +24,7 @@ impl NodeParts {
     /// Takes the next event of the order, which is this one.
     pub(crate) fn take(&mut self, event: &Event) -> Result<Taken, NoMemory>
         requires stands { IsStanding self.old }
-        requires number { self.old.at.taken < 2 ^ 63 }
+        requires number { self.old.at.taken < NUMBERS_END }
         requires members { HasFewMembers event.now }
         ensures ok { IfOk result
             (λ r. (order : List Ordered) → slice_get order self.old.at.taken ≡ Some event.now
@@ -64,8 +65,8 @@ impl NodeParts {
 
     // Takes a write set of the node's own member, which is the oldest that it had ordered.
     fn take_own(&mut self, event: &Event, body: &Bytes) -> Result<Taken, NoMemory>
-        requires number { self.old.at.taken < 2 ^ 63 }
-        requires last { self.old.ring.last < 2 ^ 63 }
+        requires number { self.old.at.taken < NUMBERS_END }
+        requires last { self.old.ring.last < NUMBERS_END }
         requires members { HasFewMembers event.now }
         ensures ok { IfOk result
             (λ r. (r, self.new)
@@ -83,8 +84,8 @@ impl NodeParts {
 
     // Takes a report of the node's own member.
     fn take_own_report(&mut self, event: &Event) -> Result<Taken, NoMemory>
-        requires number { self.old.at.taken < 2 ^ 63 }
-        requires last { self.old.ring.last < 2 ^ 63 }
+        requires number { self.old.at.taken < NUMBERS_END }
+        requires last { self.old.ring.last < NUMBERS_END }
         requires members { HasFewMembers event.now }
         ensures ok { IfOk result
             (λ r. (r, self.new)
@@ -98,8 +99,8 @@ impl NodeParts {
 
     // Takes an event that the node did not send.
     fn take_other(&mut self, event: &Event) -> Result<Taken, NoMemory>
-        requires number { self.old.at.taken < 2 ^ 63 }
-        requires last { self.old.ring.last < 2 ^ 63 }
+        requires number { self.old.at.taken < NUMBERS_END }
+        requires last { self.old.ring.last < NUMBERS_END }
         requires members { HasFewMembers event.now }
         ensures ok { IfOk result
             (λ r. (r, self.new) ≡ took_with self.old event.now self.old.queue) }
@@ -111,7 +112,7 @@ impl NodeParts {
 
     // One more event is taken.
     fn took(&mut self) -> Taken
-        requires { self.old.at.taken < 2 ^ 63 }
+        requires { self.old.at.taken < NUMBERS_END }
         ensures answer { result ≡ taken.Took (self.old.at.taken + 1) }
         ensures after { self.new
             ≡ record self.old { at = record self.old.at { taken = self.old.at.taken + 1 } } }

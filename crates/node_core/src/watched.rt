@@ -1,7 +1,8 @@
 //! A node with its watcher.
-ghost use Rattle.std.specs.Prelude.{◌≡◌, ◌≢◌, ◌≤◌, ◌<◌, ◌^◌, ◌+◌, ℕ, List, Option, Some, None, is_some, length, slice_get, IfOk, IfErr, OnErr, IsTrue, true, false};
+ghost use Rattle.std.specs.Prelude.{◌≡◌, ◌≢◌, ◌≤◌, ◌<◌, ◌+◌, ℕ, List, Option, Some, None, is_some, length, slice_get, IfOk, IfErr, OnErr, IsTrue, true, false};
 ghost use Rattle.std.specs.Option.{option_copied};
 ghost use Rattle.finite_map.specs.FiniteMap.{get};
+ghost use Rattle.wsrep_base.specs.declared.limits.TheConstants.{MOST_RING_BYTES, NUMBERS_END};
 
 use crate::answers::{Advanced, Certified, Place, Reported, Started, Status, Taken};
 use crate::gift::{Gift, GiveFault, ReceiveFault};
@@ -62,7 +63,7 @@ impl<W: Watcher> NodeOf<W> {
         watcher: Option<W>,
     ) -> Result<NodeOf<W>, NoMemory>
         requires id { id ≢ nil_id }
-        requires ring { gcache ≤ 16_777_216 }
+        requires ring { gcache ≤ MOST_RING_BYTES }
         ensures start { IfOk result (λ node. plain_of node.parts ≡ start_node gcache id member) }
         ensures stands { IfOk result (λ node. (order : List Ordered) → Stands order node.parts) }
         ensures watcher { IfOk result (λ node. node.watcher ≡ watcher) }
@@ -81,8 +82,8 @@ impl<W: Watcher> NodeOf<W> {
         requires stands { IsStanding self.old.parts }
         requires session { (1 ≤ session) × (session ≤ 32) }
         requires names { IsTrue (call_fits call.now) }
-        requires serial { self.old.parts.at.serial < 2 ^ 63 }
-        requires begin { self.old.parts.at.begin < 2 ^ 63 }
+        requires serial { self.old.parts.at.serial < NUMBERS_END }
+        requires begin { self.old.parts.at.begin < NUMBERS_END }
         ensures ok { IfOk result
             (Does (λ order n. client order n session call.now) self.old.parts self.new.parts) }
         ensures err { OnErr result (Unchanged self.old.parts self.new.parts) }
@@ -111,7 +112,7 @@ impl<W: Watcher> NodeOf<W> {
     /// Takes the next event of the order, which is this one.
     pub fn take(&mut self, event: &Event) -> Result<Taken, NoMemory>
         requires stands { IsStanding self.old.parts }
-        requires number { self.old.parts.at.taken < 2 ^ 63 }
+        requires number { self.old.parts.at.taken < NUMBERS_END }
         requires members { HasFewMembers event.now }
         ensures ok { IfOk result
             (λ r. (order : List Ordered)
@@ -145,7 +146,7 @@ impl<W: Watcher> NodeOf<W> {
     /// memory is taken first; a unit that cannot start yet takes none.
     pub fn start(&mut self, number: u64) -> Result<Started, NoMemory>
         requires stands { IsStanding self.old.parts }
-        requires serial { self.old.parts.at.serial < 2 ^ 63 }
+        requires serial { self.old.parts.at.serial < NUMBERS_END }
         ensures ok { IfOk result
             (λ r. Does (λ order n. start_step order n number) self.old.parts self.new.parts
             (started_answer number r)) }

@@ -1,6 +1,7 @@
 -- how much a cluster has given out
-use Rattle.std.specs.Prelude.{◌<◌, ◌^◌, ℕ, ◌+◌, max, List, [], ◌∷◌}
+use Rattle.std.specs.Prelude.{◌<◌, ℕ, ◌+◌, max, List, [], ◌∷◌}
 use Rattle.finite_map.specs.FiniteMap.{len}
+use Rattle.wsrep_base.specs.declared.limits.TheConstants.{NUMBERS_END}
 use Rattle.node_meaning.specs.Node.{ModelNode}
 use Rattle.node_meaning.specs.Cluster.{ModelCluster}
 use Rattle.node_laws.specs.Sizes.{cluster_size}
@@ -21,5 +22,5 @@ given c = max (cluster_size c) (nodes_given c.nodes)
 -- the names of a node's next transaction, and of a next write set and one for each live
 -- transaction, are within their types
 pub record CanGoOn (n : ModelNode) : Type 0 where
-  pub serial : n.at.serial + len n.live < 2 ^ 63
-  pub begin : n.at.begin < 2 ^ 63
+  pub serial : n.at.serial + len n.live < NUMBERS_END
+  pub begin : n.at.begin < NUMBERS_END

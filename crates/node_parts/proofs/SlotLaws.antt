@@ -55,14 +55,15 @@ module _ {X : Type 0} where
   unfolding slots
   get-slots places q count = get_by places q (ltb q 33) count refl
 
+  empty_place : (q : ℕ) (b : Bool) → ltb q 33 ≡ b
+      → get_or {A = Option X} (replicate 33 None) q None ≡ None
+  empty_place q true within = get_or-replicate 33 q None None (ltb-true q 33 within)
+  empty_place q false past = get_or_past (replicate 33 None) q None (ltb-false q 33 past)
+
   pub slots-empty : (places : List (Option X)) → places ≡ replicate 33 None → slots places ≡ empty
   slots-empty places e = same (slots places) empty (λ q.
-      get-slots places q (ap length e ∙ length-replicate {A = Option X} 33 None) ∙ ap (λ l. get_or l q None) e ∙ nothing q (ltb q 33) refl
-      ∙ sym (get-empty nat_cmp q))
-    where
-      nothing : (q : ℕ) (b : Bool) → ltb q 33 ≡ b → get_or {A = Option X} (replicate 33 None) q None ≡ None
-      nothing q true within = get_or-replicate 33 q None None (ltb-true q 33 within)
-      nothing q false past = get_or_past (replicate 33 None) q None (ltb-false q 33 past)
+      get-slots places q (ap length e ∙ length-replicate {A = Option X} 33 None)
+      ∙ ap (λ l. get_or l q None) e ∙ empty_place q (ltb q 33) refl ∙ sym (get-empty nat_cmp q))
 
   changed : (places : List (Option X)) (k : ℕ) (o : Option X) (q : ℕ) (b : Bool) → length places ≡ 33 → k < 33 → eqb q k ≡ b
       → get (slots (set places k o)) q ≡ cond b o (get (slots places) q)
@@ -114,11 +115,19 @@ module _ {X : Type 0} where
       ∙ at_place places places m q at is count refl same_place
 
   -- the empty places have no item, and place 0 is not used
-  pub new_slots : (places : List (Option X)) (n : ℕ) → places ≡ replicate n None → n ≡ 33 → AreSlots places
+  pub new_slots : (places : List (Option X)) (n : ℕ) → places ≡ replicate n None → n ≡ 33
+      → AreSlots 0 places
   new_slots places n e is = record {
     count = ap length e ∙ length-replicate {A = Option X} n None ∙ is;
-    unused = ap (λ l. get_or l 0 None) (e ∙ ap (λ k. replicate {A = Option X} k None) is);
+    unused = free_at 0;
+    few = omega arith;
+    free = λ k from. free_at k;
   }
+    where
+      free_at : (k : ℕ) → get_or places k None ≡ None
+      free_at k =
+          ap (λ l. get_or l k None) (e ∙ ap (λ j. replicate {A = Option X} j None) is)
+          ∙ empty_place k (ltb k 33) refl
 
   not_both : (o : Option X) (x : X) → o ≡ None → o ≡ Some x → ⊥
   not_both o x none some = true≢false (sym (ap is_some some) ∙ ap is_some none)
@@ -133,15 +142,29 @@ module _ {X : Type 0} where
   first_place q true o x here none is = let e = none (eqb-true q 0 here) in cc
   first_place q false o x elsewhere none is = let apart = eqb-false q 0 elsewhere in omega (arith, apart)
 
-  pub has_sessions : (places : List (Option X)) (m : FiniteMap nat_cmp X) → slots places ≡ m → AreSlots places → HasSessions m
-  has_sessions places m is are = subst HasSessions is (sessions places are)
+  pub has_sessions : (end : ℕ) (places : List (Option X)) (m : FiniteMap nat_cmp X)
+      → slots places ≡ m → AreSlots end places → HasSessions m
+  has_sessions end places m is are = subst HasSessions is (sessions places are)
     where
-      sessions : (ps : List (Option X)) → AreSlots ps → HasSessions (slots ps)
+      sessions : (ps : List (Option X)) → AreSlots end ps → HasSessions (slots ps)
       sessions ps good q x there =
           let at : get_or ps q None ≡ Some x = sym (get-slots ps q good.count) ∙ there in (
             first_place q (eqb q 0) (get_or ps q None) x refl (λ e. ap (λ k. get_or ps k None) e ∙ good.unused) at,
             last_place ps q x (ltb q 33) good.count refl at,
           )
+
+  -- a session that has an item is below the end
+  pub below_end : (end : ℕ) (places : List (Option X)) (m : FiniteMap nat_cmp X)
+      → slots places ≡ m → AreSlots end places
+      → (q : ℕ) (x : X) → get m q ≡ Some x → q < end
+  below_end end places m is are q x there = by_place (ltb q end) refl
+    where
+      by_place : (b : Bool) → ltb q end ≡ b → q < end
+      by_place true below = ltb-true q end below
+      by_place false past =
+          absurd (not_both (get m q) x
+          (ap (λ n. get n q) (sym is) ∙ get-slots places q are.count
+          ∙ are.free q (ltb-false q end past)) there)
 
   -- what is an item of the map is an item of a session
   pub item_within : (m : FiniteMap nat_cmp X) (q : ℕ) (o : Option X) → HasSessions m → o ≡ get m q → IfSome o (λ x. (1 ≤ q) × (q ≤ 32))

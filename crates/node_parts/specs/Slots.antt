@@ -18,10 +18,12 @@ slots_before (suc n) places = with_place n (slice_index_or places n None) (slots
 unfoldable pub slots : {X : Type 0} → List (Option X) → FiniteMap nat_cmp X
 slots places = slots_before 33 places
 
--- 33 places, of which place 0 is never taken
-pub record AreSlots {X : Type 0} (places : List (Option X)) : Type 0 where
+-- 33 places, of which place 0 is never taken, and all from the end on are free
+pub record AreSlots {X : Type 0} (end : ℕ) (places : List (Option X)) : Type 0 where
   pub count : length places ≡ 33
   pub unused : slice_index_or places 0 None ≡ None
+  pub few : end ≤ 33
+  pub free : (k : ℕ) → end ≤ k → slice_index_or places k None ≡ None
 
 -- sessions are numbered from 1 to 32
 abbrev pub HasSessions : {X : Type 0} → FiniteMap nat_cmp X → Type 0

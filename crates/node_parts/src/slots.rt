@@ -1,4 +1,4 @@
-ghost use Rattle.std.specs.Prelude.{◌≡◌, ◌≤◌, is_some, IfOk, IfSome};
+ghost use Rattle.std.specs.Prelude.{◌≡◌, ◌≤◌, ◌<◌, ℕ, Some, is_some, IfOk, IfSome};
 ghost use Rattle.std.specs.Option.{option_copied};
 ghost use Rattle.finite_map.specs.FiniteMap.{empty, get, insert, remove, len};
 ghost use Rattle.node_parts.specs.Slots.{HasSessions};
@@ -11,6 +11,8 @@ use wsrep_base::NoMemory;
 #[derive(Drop)]
 pub struct Slots<T> {
     places: Vec<Option<T>>,
+    // All places from this one on are free.
+    end: u8,
 }
 
 impl<T> Model for Slots<T> {
@@ -25,7 +27,7 @@ impl<T> Model for Slots<T> {
 
     ghost view = { λ s. slots s.places.items };
 
-    ghost invariant = { λ s. AreSlots s.places.items };
+    ghost invariant = { λ s. AreSlots s.end s.places.items };
 }
 
 impl<T: Drop> Slots<T> {
@@ -37,7 +39,7 @@ impl<T: Drop> Slots<T> {
         for _ in 0..33_usize {
             places.push(None)?;
         }
-        Ok(Slots { places })
+        Ok(Slots { places, end: 0 })
     }
 
     /// The session's item.
@@ -60,6 +62,16 @@ impl<T: Drop> Slots<T> {
         33
     }
 
+    /// A number above all sessions that have an item.
+    pub fn end(&self) -> u8
+        ensures above { (session : ℕ) (item : T)
+            → get self.now session ≡ Some item → session < result }
+        ensures sessions { HasSessions self.now }
+        ensures few { result ≤ 33 }
+    {
+        self.end
+    }
+
     /// Whether the session has an item.
     pub fn contains(&self, session: u8) -> bool
         ensures { result ≡ is_some (get self.now session) }
@@ -74,6 +86,7 @@ impl<T: Drop> Slots<T> {
         ensures { self.new ≡ insert self.old session item }
     {
         self.places[usize::from(session)] = Some(item);
+        self.end = self.end.max(session + 1);
     }
 
     /// Takes the session's item out.

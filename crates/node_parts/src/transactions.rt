@@ -47,7 +47,7 @@ fn find(live: &Slots<Trx>, wanted: Wanted) -> Option<u8>
         ≡ option_map (λ e. e.0) (find (λ e. is_wanted wanted e.1) live.now.entries) }
     ensures within { IfSome result (λ session. (1 ≤ session) × (session ≤ 32)) }
 {
-    for session in 0..live.session_end() {
+    for session in 0..live.end() {
         if let Some(trx) = live.get(session)
             && is_wanted(trx, wanted)
         {

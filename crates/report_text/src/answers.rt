@@ -6,13 +6,16 @@ use crate::replies::{append_judged, append_reply};
 use order_event::Answer;
 use wsrep_base::{ByteList, NoMemory};
 
+// Most answers have fewer bytes.
+const ROOM: usize = 64;
+
 /// Appends the text of an answer, with no line number and no newline, or nothing where memory
 /// does not suffice.
 pub fn put_answer(out: &mut ByteList, answer: &Answer) -> Result<(), NoMemory>
     ensures ok { OnOk result (out.new ≡ out.old ++ answer_text answer.now) }
     ensures err { OnErr result (out.new ≡ out.old) }
 {
-    let mut text = ByteList::new(out.alloc());
+    let mut text = ByteList::from(Vec::with_capacity(out.alloc(), ROOM)?);
     append_answer(&mut text, answer)?;
     out.extend(text.as_slice())
 }

@@ -1,4 +1,5 @@
-ghost use Rattle.std.specs.Prelude.{◌≡◌, ◌<◌, ◌^◌, [], ◌∷◌, ◌++◌, OnOk, OnErr};
+ghost use Rattle.std.specs.Prelude.{◌≡◌, ◌<◌, [], ◌∷◌, ◌++◌, OnOk, OnErr};
+ghost use Rattle.wsrep_base.specs.declared.limits.TheConstants.{NUMBERS_END};
 ghost use Rattle.report_text.specs.Load.{counts_of, together, IsCountOf};
 ghost use Rattle.report_text.specs.Load.{count_line, answers_text, counts_text, first_sum, sum_text};
 
@@ -34,7 +35,7 @@ impl LoadCounts {
 
     /// Counts one answer more. No count is above 2^63.
     pub fn add(&mut self, answer: &Answer)
-        requires { IsCountOf (2 ^ 63) self.old }
+        requires { IsCountOf NUMBERS_END self.old }
         ensures { self.new ≡ together self.old (counts_of (answer.now ∷ [])) }
     {
         let Answer::Client(reply) = answer else {

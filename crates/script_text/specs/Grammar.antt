@@ -2,6 +2,7 @@
 use Rattle.std.specs.Prelude.{ℕ, ◌+◌, ◌==◌, ◌&&◌, Bool, true, false, nat_le, List, [], ◌∷◌, length, take, drop, slice_index, Option, Some, None, option_map, Result, Ok, Err, if◌then◌else◌}
 use Rattle.std.specs.List.{position}
 use Rattle.wsrep_base.specs.StateId.{id_of}
+use Rattle.wsrep_base.specs.declared.limits.TheConstants.{MOST_RING_BYTES}
 use Rattle.row_model.specs.declared.calls.Call.{Call}
 use Rattle.row_model.specs.declared.calls.Call.TheVariants as call
 use Rattle.order_event.specs.declared.step.Act.{Act}
@@ -149,7 +150,7 @@ line_is_within (line.Step step) = step_is_within step
 
 -- the limits of a header
 abbrev pub header_is_within : Header → Bool
-header_is_within header = nat_le header.nodes 9 && nat_le header.gcache 16_777_216
+header_is_within header = nat_le header.nodes 9 && nat_le header.gcache MOST_RING_BYTES
 
 abbrev pub first_is_within : Option Header → Bool
 first_is_within None = true

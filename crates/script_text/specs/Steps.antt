@@ -1,5 +1,6 @@
 -- what holds of each step that a line says, and of each header
 use Rattle.std.specs.Prelude.{ℕ, ◌≤◌, IsTrue}
+use Rattle.wsrep_base.specs.declared.limits.TheConstants.{MOST_RING_BYTES}
 use Rattle.order_event.specs.declared.step.Act.{Act}
 use Rattle.order_event.specs.declared.step.Act.TheVariants.{Client}
 use Rattle.order_event.specs.declared.step.Step.{Step}
@@ -25,4 +26,4 @@ IsRunnable nodes step = IsStepOf nodes step × IsTrue (step_fits step)
 pub record IsHeader (header : Header) : Type 0 where
   pub some_node : 1 ≤ header.nodes
   pub few_nodes : header.nodes ≤ 9
-  pub small_ring : header.gcache ≤ 16_777_216
+  pub small_ring : header.gcache ≤ MOST_RING_BYTES

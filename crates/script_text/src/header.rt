@@ -5,13 +5,10 @@ ghost use Rattle.script_text.specs.Written.{header_written};
 use crate::fields::{counting, number};
 use crate::line::{Header, ScriptCause};
 use crate::words::{Words, is};
-use wsrep_base::StateId;
+use wsrep_base::{MOST_RING_BYTES, StateId};
 
 // The most nodes of a cluster.
 const NODES_MAX: u64 = 9;
-
-// The most bytes of a GCache ring.
-const GCACHE_MAX: u64 = 16_777_216;
 
 // A header as it is written. Its numbers may be too great.
 #[derive(Clone, Copy)]
@@ -58,7 +55,7 @@ fn written_header(words: &mut Words) -> Option<WrittenHeader>
 fn header_within(header: WrittenHeader) -> Result<Header, ScriptCause>
     ensures { result ≡ judged header_is_within (Some (header_written header)) }
 {
-    if header.nodes > NODES_MAX || header.gcache > GCACHE_MAX {
+    if header.nodes > NODES_MAX || header.gcache > MOST_RING_BYTES {
         return Err(ScriptCause::Limit);
     }
     Ok(Header {

@@ -33,13 +33,16 @@ fn put_step(out: &mut ByteList, w: &WriteSet) -> Result<(), NoMemory>
     put_u64(out, w.last_seen)
 }
 
+// A write set of few changes has fewer bytes.
+const ROOM: usize = 256;
+
 /// The one spelling of a valid write set.
 #[tactic(auto, unfolding(crate::specs::Spelling::spelling))]
 pub fn encode(alloc: Global, w: &WriteSet) -> Result<Bytes, NoMemory>
     requires { IsTrue (obeys w.now) }
     ensures { IfOk result (λ bytes. bytes ≡ spelling w.now) }
 {
-    let mut out = ByteList::new(alloc);
+    let mut out = ByteList::from(Vec::with_capacity(alloc, ROOM)?);
     put_sender(&mut out, w)?;
     put_step(&mut out, w)?;
     put_all_keys(&mut out, &w.keys)?;

@@ -6,9 +6,9 @@ ghost use Rattle.write_set.specs.Reading.{decoded};
 ghost use Rattle.cert_meaning.specs.State.{whole_ops, fragments_of};
 ghost use Rattle.cert_meaning.specs.Verdict.{trx_of};
 ghost use Rattle.cert_meaning.specs.Whole.{Fits};
-ghost use Rattle.cert_meaning.specs.Fold.{judged, judged_write, after, settled, closed, continued, committed, affected, effect_of, written, viewed, reported, commit_by, commit_made, commit_written, commit_of, ops_by, ops_written, ops_of, set_in};
+ghost use Rattle.cert_meaning.specs.Fold.{judged, judged_write, after, settled, closed, continued, committed, affected, effect_of, written, viewed, reported, commit_by, commit_made, commit_written, commit_of, ops_by, ops_written, ops_of};
 ghost use Rattle.certification.specs.Certifies.{bare};
-ghost use Rattle.certification.specs.Indexed.{dependency_of};
+ghost use Rattle.certification.specs.Indexed.{begin_in, begin_of, dependency_of};
 
 use super::Indexed;
 use bytes::Bytes;
@@ -17,15 +17,16 @@ use order_event::Event;
 use row_model::OpList;
 use std::alloc::Global;
 use write_set::WriteSet;
-use wsrep_base::{Judged, NoMemory, Verdict};
+use wsrep_base::{Judged, NoMemory, TrxId, Verdict};
 
 /// What a step tells.
 #[derive(Drop)]
 pub(crate) struct Stepped {
     /// What became of the event.
     pub(crate) judged: Judged,
-    /// The write set that the event's bytes spell. None where they spell none, and of other events.
-    pub(crate) set: Option<WriteSet>,
+    /// The begin number of the write set that the event's bytes spell. None where they spell none,
+    /// and of other events.
+    pub(crate) begin: Option<u64>,
     /// The changes that the event commits: those of its transaction's fragments, and its own.
     pub(crate) changes: OpList,
     /// The latest commit that the event's commit touches.
@@ -44,7 +45,7 @@ impl Indexed {
     pub(crate) fn step(&mut self, event: &Event) -> Result<Stepped, NoMemory>
         requires { self.old.number + 1 < 2 ^ 64 }
         ensures judged { IfOk result (λ told. told.judged ≡ judged self.old event.now) }
-        ensures set { IfOk result (λ told. told.set ≡ set_in event.now) }
+        ensures begin { IfOk result (λ told. told.begin ≡ begin_in event.now) }
         ensures changes { IfOk result (λ told. told.changes ≡ ops_of self.old event.now) }
         ensures dependency { IfOk result
             (λ told. told.dependency ≡ dependency_of self.old (commit_of self.old event.now)) }
@@ -68,13 +69,13 @@ impl Indexed {
     // What became of an event that has no write set.
     fn told(&self, judged: Judged) -> Stepped
         ensures judged { result.judged ≡ judged }
-        ensures set { result.set ≡ None }
+        ensures begin { result.begin ≡ None }
         ensures changes { result.changes ≡ [] }
         ensures dependency { result.dependency ≡ None }
     {
         Stepped {
             judged,
-            set: None,
+            begin: None,
             changes: OpList::new(self.alloc()),
             dependency: None,
         }
@@ -85,7 +86,7 @@ impl Indexed {
         requires { self.old.number + 1 < 2 ^ 64 }
         ensures judged { IfOk result
             (λ told. told.judged ≡ judged_write self.old member (decoded body.now)) }
-        ensures set { IfOk result (λ told. told.set ≡ decoded body.now) }
+        ensures begin { IfOk result (λ told. told.begin ≡ begin_of (decoded body.now)) }
         ensures changes { IfOk result
             (λ told. told.changes ≡ unwrap_or (ops_written self.old member (decoded body.now)) []) }
         ensures dependency { IfOk result (λ told. told.dependency
@@ -99,36 +100,37 @@ impl Indexed {
             return Ok(self.told(Judged::Fail(Verdict::Malformed)));
         };
         let judged = judged_as(&set, self.verdict(member, &set)?);
+        let begin = set.begin;
         let Made {
             changes,
             dependency,
-        } = self.affect(&set, judged)?;
+        } = self.affect(set, judged)?;
         Ok(Stepped {
             judged,
-            set: Some(set),
+            begin: Some(begin),
             changes,
             dependency,
         })
     }
 
     // What a write set does, by what became of it. Gives what it commits.
-    fn affect(&mut self, set: &WriteSet, judged: Judged) -> Result<Made, NoMemory>
+    fn affect(&mut self, set: WriteSet, judged: Judged) -> Result<Made, NoMemory>
         requires number { self.old.number + 1 < 2 ^ 64 }
-        requires commit { judged ≡ became.Commit → Fits self.old set.now }
-        requires fragment { judged ≡ became.Fragment → Fits self.old set.now }
+        requires commit { judged ≡ became.Commit → Fits self.old set }
+        requires fragment { judged ≡ became.Fragment → Fits self.old set }
         ensures changes { IfOk result
-            (λ made. made.changes ≡ unwrap_or (ops_by self.old set.now (effect_of judged)) []) }
+            (λ made. made.changes ≡ unwrap_or (ops_by self.old set (effect_of judged)) []) }
         ensures dependency { IfOk result (λ made. made.dependency
-            ≡ dependency_of self.old (commit_made self.old set.now (effect_of judged))) }
+            ≡ dependency_of self.old (commit_made self.old set (effect_of judged))) }
         ensures state { OnOk result
-            (self.new ≡ bare (settled (affected self.old set.now (effect_of judged)))) }
+            (self.new ≡ bare (settled (affected self.old set (effect_of judged)))) }
         ensures err { OnErr result (self.new ≡ self.old) }
     {
         match judged {
             Judged::Commit => return self.commit(set),
             Judged::Fragment => self.add(set)?,
-            Judged::Rollback => self.close(set),
-            Judged::Fail(failure) => self.fail(set, failure),
+            Judged::Rollback => self.close(&set),
+            Judged::Fail(failure) => self.fail(&set, failure),
             Judged::View | Judged::Report => self.settle(),
         }
         Ok(Made {
@@ -156,26 +158,28 @@ impl Indexed {
     }
 
     // All keys of the transaction are entered. Room is made before anything is changed.
-    fn commit(&mut self, set: &WriteSet) -> Result<Made, NoMemory>
+    fn commit(&mut self, set: WriteSet) -> Result<Made, NoMemory>
         requires number { self.old.number + 1 < 2 ^ 64 }
-        requires fits { Fits self.old set.now }
+        requires fits { Fits self.old set }
         ensures changes { IfOk result (λ made. made.changes
-            ≡ whole_ops (fragments_of self.old (trx_of set.now)) set.now.ops) }
+            ≡ whole_ops (fragments_of self.old (trx_of set)) set.ops) }
         ensures dependency { IfOk result (λ made. made.dependency
-            ≡ dependency_of self.old (Some (commit_by self.old set.now))) }
-        ensures state { OnOk result (self.new ≡ bare (settled (committed self.old set.now))) }
+            ≡ dependency_of self.old (Some (commit_by self.old set))) }
+        ensures state { OnOk result (self.new ≡ bare (settled (committed self.old set))) }
         ensures err { OnErr result (self.new ≡ self.old) }
     {
-        let trx = trx_of(set);
-        let changes = whole_ops(self.alloc(), self.open.fragments(trx), set.ops.as_slice())?;
+        let trx = trx_of(&set);
+        let serial = set.serial;
+        // The copy takes no more room than it needs. It may be kept for long.
         let Some(keys) = self.open.whole_keys(trx, &set.keys)? else {
             unreachable!();
         };
+        let changes = self.all_changes(trx, set.ops)?;
         let dependency = self.index.dependency(&keys);
         let number = self.number + 1;
         self.commits.reserve(1)?;
         self.index.enter(number, &keys)?;
-        self.members.set_serial(set.member, set.serial);
+        self.members.set_serial(trx.member, serial);
         self.open.close(trx);
         // As in `settle`, which the new commit has to come with.
         let _floor = self.members.floor();
@@ -188,21 +192,34 @@ impl Indexed {
         })
     }
 
+    // All changes of a transaction with those of one more write set.
+    fn all_changes(&self, trx: TrxId, ops: OpList) -> Result<OpList, NoMemory>
+        ensures { IfOk result (λ all. all ≡ whole_ops (fragments_of self.now trx) ops) }
+    {
+        let fragments = self.open.fragments(trx);
+        if fragments.is_empty() {
+            return Ok(ops);
+        }
+        whole_ops(self.alloc(), fragments, ops.as_slice())
+    }
+
     // The transaction has one more fragment.
-    fn add(&mut self, set: &WriteSet) -> Result<(), NoMemory>
+    fn add(&mut self, set: WriteSet) -> Result<(), NoMemory>
         requires number { self.old.number + 1 < 2 ^ 64 }
-        requires fits { Fits self.old set.now }
-        ensures ok { OnOk result (self.new ≡ bare (settled (continued self.old set.now))) }
+        requires fits { Fits self.old set }
+        ensures ok { OnOk result (self.new ≡ bare (settled (continued self.old set))) }
         ensures err { OnErr result (self.new ≡ self.old) }
     {
+        let trx = trx_of(&set);
+        let serial = set.serial;
         let fragment = Fragment {
             number: self.number + 1,
             last_seen: set.last_seen,
-            keys: set.keys.copy()?,
-            ops: set.ops.copy()?,
+            keys: set.keys,
+            ops: set.ops,
         };
-        self.open.add(trx_of(set), fragment)?;
-        self.members.set_serial(set.member, set.serial);
+        self.open.add(trx, fragment)?;
+        self.members.set_serial(trx.member, serial);
         self.settle();
         Ok(())
     }

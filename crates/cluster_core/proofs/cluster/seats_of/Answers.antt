@@ -1,8 +1,8 @@
 -- One more node at its start is the next one.
-use Rattle.std.proofs.Common.{ap, ◌∙◌, ◌+◌, map}
+use Rattle.std.proofs.Common.{◌≡◌, ap, ◌∙◌, ◌+◌, map, arith}
 use Rattle.group_order.specs.Order.{up_to}
 use Rattle.node_meaning.specs.Node.{start_node}
-use Rattle.cluster_core.proofs.ActLaws.{next_seat, no_seat, same_count}
+use Rattle.cluster_core.proofs.ActLaws.{next_seat, no_seat}
 use Rattle.cluster_core.proofs.cluster.seats_of.Goals as goal
 
 pub loop-before-init : goal.loop-before-init
@@ -15,8 +15,10 @@ loop-before-preserved g c =
 
 pub returns-clause-nodes : goal.returns-clause-nodes
 returns-clause-nodes g c =
+    let all : c.loop-before.before ≡ c.args.nodes =
+    omega (arith, c.loop-before.auto.before-end, c.loop-before-test.false) in
     c.loop-before.invariant.0
-    ∙ ap (λ k. map (start_node c.args.gcache c.args.id) (up_to k)) (same_count c.loop-before.before c.args.nodes c.loop-before.auto.before-end c.loop-before-test.false)
+    ∙ ap (λ k. map (start_node c.args.gcache c.args.id) (up_to k)) all
 
 pub returns-clause-seated : goal.returns-clause-seated
 returns-clause-seated g c = c.loop-before.invariant.1

@@ -1,5 +1,6 @@
 -- What the step does to the one seat it does to the cluster.
 use Rattle.std.proofs.Common.{◌≡◌, ◌≤◌, ◌<◌, ◌+◌, ℕ, zero, suc, List, [], ◌∷◌, length, Option, Some, refl, sym, subst, arith}
+use Rattle.std.proofs.lemmas.Result.{IfOk-weaker, IfErr-weaker}
 use Rattle.std.specs.Prelude.{slice_get}
 use Rattle.order_event.specs.declared.step.Act.{Act}
 use Rattle.node_meaning.specs.Node.{ModelNode}
@@ -10,7 +11,7 @@ use Rattle.cluster_core.specs.declared.fault.StepFault.TheVariants as fault
 use Rattle.cluster_core.specs.Seated.{seen}
 use Rattle.cluster_core.specs.Acts.{Acted, cluster_of, nodes_of}
 use Rattle.cluster_core.specs.Steps.{FailedBy}
-use Rattle.cluster_core.proofs.ActLaws.{item_there, at_nodes, step_done, step_failed, kept_set, if_ok, if_err, err_by, goes_by}
+use Rattle.cluster_core.proofs.ActLaws.{item_there, at_nodes, step_done, step_failed, kept_set, err_by, goes_by}
 use Rattle.cluster_core.proofs.TransferSteps.{alone_of, transfer_failed}
 use Rattle.cluster_core.proofs.steps.step_at.Goals as goal
 
@@ -22,14 +23,14 @@ step_on-requires-clause-counts g c =
 
 pub returns-in_default-clause-ok : goal.returns-in_default-clause-ok
 returns-in_default-clause-ok g c =
-    if_ok _ _ c.step_on.result
+    IfOk-weaker c.step_on.result _ _
     (step_done c.args.act.now (g.G.Group.order c.args.group.now) (g.G.Group.order c.step_on.new.group) c.args.seats.now.items c.args.at
     c.index_mut.result.now c.step_on.new.seat (item_there c.args.seats.now.items c.args.at c.index_mut.result.now c.requires.at c.index_mut.ensures.value))
     c.step_on.ensures.ok
 
 pub returns-in_default-clause-err : goal.returns-in_default-clause-err
 returns-in_default-clause-err g c =
-    if_err _ _ c.step_on.result
+    IfErr-weaker c.step_on.result _ _
     (step_failed c.args.act.now (g.G.Group.order c.args.group.now) (g.G.Group.order c.step_on.new.group) c.args.seats.now.items c.args.at
     c.index_mut.result.now c.step_on.new.seat (item_there c.args.seats.now.items c.args.at c.index_mut.result.now c.requires.at c.index_mut.ensures.value))
     c.step_on.ensures.err

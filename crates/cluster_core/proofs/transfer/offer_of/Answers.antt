@@ -1,5 +1,6 @@
 -- The donor hands over what the model's donor does.
 use Rattle.std.proofs.Common.{◌≡◌, true, refl, sym, ap, subst, ◌∙◌, arith, Some}
+use Rattle.std.proofs.lemmas.Result.{IfOk-weaker}
 use Rattle.std.specs.Str.{bytes_eq}
 use Rattle.std.proofs.Common.{rules}
 use Rattle.std.proofs.lemmas.Slice.Eq.{bytes_eq-Decides}
@@ -9,7 +10,6 @@ use Rattle.node_meaning.specs.Joining.{received_events, transfer_from}
 use Rattle.node_core.specs.Giving.{Gives}
 use Rattle.node_core.specs.Stands.{plain_of}
 use Rattle.cluster_core.specs.Transfers.{IsOffer}
-use Rattle.cluster_core.proofs.ActLaws.{if_ok}
 use Rattle.cluster_core.proofs.TransferLaws.{handing, from_plan, plan_is, brings_next}
 use Rattle.cluster_core.proofs.transfer.offer_of.Goals as goal
 
@@ -31,7 +31,7 @@ returns-in_ok-gift-in-Ist-clause-ok g c order n can joiner =
 
 pub returns-in-Sst-clause-ok : goal.returns-in-Sst-clause-ok
 returns-in-Sst-clause-ok g c =
-    if_ok _ _ c.snapshot.result (λ offer made order n can joiner.
+    IfOk-weaker c.snapshot.result _ _ (λ offer made order n can joiner.
     let tested : c.eq-same.result ≡ bytes_eq c.args.joiner.id c.place.result.id = search (rules, bytes_eq-Decides) in
     let took = c.taken-taken.ensures in
     let more = c.if-taken-joiner.false in

@@ -1,5 +1,5 @@
 use Rattle.std.proofs.Common.{◌≡◌, ◌-◌}
-use Rattle.galera_run.specs.Reading.{most_bytes}
+use Rattle.galera_run.specs.declared.line.TheConstants.{MOST_BYTES}
 use Rattle.galera_run.specs.Feeding.{IsSound, Reads, read_count}
 use Rattle.galera_run.proofs.run.read_all.Given as goal
 
@@ -13,4 +13,4 @@ invariant-reads g l = record {
 }
 
 abbrev pub decreases-reads : goal.decreases-reads
-decreases-reads g l = most_bytes - read_count l.script
+decreases-reads g l = MOST_BYTES - read_count l.script

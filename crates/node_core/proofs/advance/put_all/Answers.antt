@@ -1,17 +1,7 @@
-use Rattle.std.proofs.Common.{refl, ap, ◌∙◌, arith}
+use Rattle.std.proofs.Common.{ap, ◌∙◌, arith}
 use Rattle.finite_map.specs.FiniteMap.{get}
 use Rattle.node_core.proofs.PutLoop.{put_more, free_at, take_whole}
 use Rattle.node_core.proofs.advance.put_all.Goals as goal
-
-pub loop-id-init : goal.loop-id-init
-loop-id-init c = (refl, refl, omega arith)
-
-pub put-requires-clause-spare : goal.put-requires-clause-spare
-put-requires-clause-spare c =
-    let below = c.loop-id-test.true in
-    let room = c.requires.room in
-    let kept = c.loop-id.invariant.2 in
-    omega (arith, below, room, kept)
 
 pub put-requires-clause-free : goal.put-requires-clause-free
 put-requires-clause-free c =
@@ -33,12 +23,3 @@ returns-clause-committed c =
     let few = c.loop-id.auto.id-index-end in
     c.loop-id.invariant.0
     ∙ take_whole c.args.results.now c.loop-id.id-index c.args.rows.now.committed (omega (arith, few, c.loop-id-test.false))
-
-pub returns-clause-changes : goal.returns-clause-changes
-returns-clause-changes c = c.loop-id.invariant.1
-
-pub returns-clause-spare : goal.returns-clause-spare
-returns-clause-spare c =
-    let few = c.loop-id.auto.id-index-end in
-    let kept = c.loop-id.invariant.2 in
-    omega (arith, few, kept)

@@ -16,5 +16,6 @@ returns-in-loop-session-clause-value c =
 pub returns-clause-value : goal.returns-clause-value
 returns-clause-value c =
     ap (option_map (λ (e : ℕ × Live). e.0))
-    (sym (nothing_found (λ e. is_wanted c.args.wanted e.1) c.args.live.now c.loop-session.session c.loop-session.invariant
-    (λ q y there. let h = c.session_end-session-end.ensures.sessions q y there in omega (arith, h.1))))
+    (sym (nothing_found (λ e. is_wanted c.args.wanted e.1) c.args.live.now c.loop-session.session
+    c.loop-session.invariant
+    (λ q y there. let h = c.end-session-end.ensures.above q y there in omega (arith, h))))

@@ -1,12 +1,13 @@
 -- The step of the seat is the model's step.
 use Rattle.std.proofs.Common.{ap, sym, subst, refl, arith, ◌-◌, ◌<◌, ◌^◌}
+use Rattle.std.proofs.lemmas.Result.{IfOk-weaker}
 use Rattle.node_meaning.specs.Cluster.{ModelCluster}
 use Rattle.cluster_core.specs.Orders.{OrderIsKept}
 use Rattle.cluster_core.specs.Lawful.{IsLawful}
 use Rattle.cluster_core.specs.State.{ClusterState}
 use Rattle.cluster_core.specs.Acts.{cluster_of, nodes_of}
 use Rattle.node_laws.specs.Given.{given}
-use Rattle.cluster_core.proofs.ActLaws.{if_ok, cluster_done, cluster_failed}
+use Rattle.cluster_core.proofs.ActLaws.{cluster_done, cluster_failed}
 use Rattle.node_laws.proofs.GivenLaws.{node_goes_on}
 use Rattle.cluster_core.proofs.CountedLaws.{given_after, nodes_after, events_after}
 use Rattle.cluster_core.proofs.Entering.{may_enter}
@@ -24,7 +25,7 @@ step_at-requires-clause-enters g c =
 
 pub returns-clause-ok : goal.returns-clause-ok
 returns-clause-ok g c =
-    if_ok _ _ c.step_at.result
+    IfOk-weaker c.step_at.result _ _
     (λ x. cluster_done (cluster_of (g.G.Group.order c.self.inside.group) (nodes_of c.self.inside.seats.items)) c.args.self.now.model
     (c.from-at.result - 1) c.args.step.now
     (x, cluster_of (g.G.Group.order c.step_at.new.group) (nodes_of c.step_at.new.seats.items))

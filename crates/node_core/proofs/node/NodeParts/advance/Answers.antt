@@ -17,8 +17,9 @@ pub returns-clause-does : goal.returns-clause-does
 returns-clause-does c order stands =
     advance_does order c.args.self.now stands c.if-self.false
     (sym (c.is_ready.ensures ∙ ready_is order c.args.self.now stands c.if-self.false) ∙ c.if-not-is_ready.false)
-    c.take_unit.new.self c.take_unit.ensures c.end_committer.new.self _ refl
-    (λ certifies. c.commit-judged.ensures.certifies order c.args.self.now.at.committed c.args.self.now.at.certified certifies refl) c.end_committer.ensures
+    c.take_unit.new.self c.take_unit.ensures c.end_committer.new.self c.commit-judged.new.self
+    (λ certifies. c.commit-judged.ensures.certifies order c.args.self.now.at.committed
+    c.args.self.now.at.certified certifies refl) c.end_committer.ensures
 
 pub returns-clause-note : goal.returns-clause-note
 returns-clause-note c order stands = note_told order c.args.self.now stands c.if-self.false

@@ -27,9 +27,6 @@ returns-then-is_in c = λ order st.
           c.in_ok-events_from.ensures,
     )
 
-pub committed_state-requires-clause-stands : goal.committed_state-requires-clause-stands
-committed_state-requires-clause-stands c = (c.requires.stands.order, c.requires.stands.stands)
-
 pub take-requires-clause-rules : goal.take-requires-clause-rules
 take-requires-clause-rules c =
     let g = c.requires.stands in

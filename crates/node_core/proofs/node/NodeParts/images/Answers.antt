@@ -1,6 +1,7 @@
-use Rattle.std.proofs.Common.{◌≡◌, ◌<◌, length, get_or, subst, ◌∙◌}
+use Rattle.std.proofs.Common.{◌≡◌, ◌<◌, length, get_or, sym, subst, ◌∙◌}
+use Rattle.std.proofs.lemmas.Bool.{not-true, not-false}
 use Rattle.row_model.specs.declared.ops.Op.{Op}
-use Rattle.node_core.proofs.ImageCalls.{no_rows, no_images, was_there, was_new, one_more_row, image_there, image_new}
+use Rattle.node_core.proofs.ImageCalls.{no_rows, no_images, one_more_row, image_there, image_new}
 use Rattle.node_core.proofs.node.NodeParts.images.Goals as goal
 use Rattle.node_core.proofs.node.NodeParts.images.Goals.{then-branch+in_ok-push, else-branch}
 
@@ -24,11 +25,13 @@ loop-op-preserved c =
         | then-branch+in_ok-push w ↦
             w.images-is ∙ image_new c.args.ops.now i op c.id-id.result c.loop-op.named.keys c.insert.new.self.keys below is c.id-id.ensures
             c.loop-op.invariant.named c.in_ok-insert.ensures.keys c.args.self.now.rows.committed c.loop-op.images w.push.new.self w.committed.result
-            (was_new c.in_ok-insert.field-0 _ c.in_ok-insert.ensures.added w.if-branch.true) c.loop-op.invariant.images
+            (not-true _ (sym c.in_ok-insert.ensures.added ∙ w.if-branch.true))
+            c.loop-op.invariant.images
             w.committed.ensures w.in_ok-push.ensures.ok
         | else-branch w ↦
             w.images-is ∙ image_there c.args.ops.now i op c.id-id.result c.loop-op.named.keys c.insert.new.self.keys below is c.id-id.ensures
             c.loop-op.invariant.named c.in_ok-insert.ensures.keys c.args.self.now.rows.committed c.loop-op.images
-            (was_there c.in_ok-insert.field-0 _ c.in_ok-insert.ensures.added w.if-branch.false) c.loop-op.invariant.images
+            (not-false _ (sym c.in_ok-insert.ensures.added ∙ w.if-branch.false))
+            c.loop-op.invariant.images
       ];
     }

@@ -2,14 +2,9 @@
 use Rattle.std.proofs.Common.{sym, subst}
 use Rattle.std.proofs.lemmas.Result.{IfOk-weaker}
 use Rattle.node_core.specs.Starting.{IsStartable}
-use Rattle.node_core.proofs.StartCalls.{on_err, wants_start, starts_done}
+use Rattle.node_core.proofs.StartCalls.{starts_now, starts_done}
+use Rattle.node_core.proofs.ClientCalls.{where_err}
 use Rattle.node_core.proofs.node.NodeParts.start.Goals as goal
-
-pub returns-in-Err-clause-ok : goal.returns-in-Err-clause-ok
-returns-in-Err-clause-ok c order stands = (c.in-Err.ensures.err order stands).done
-
-pub returns-in-Err-clause-task : goal.returns-in-Err-clause-task
-returns-in-Err-clause-task c order stands = (c.in-Err.ensures.err order stands).task
 
 pub start_unit-requires : goal.start_unit-requires
 start_unit-requires c = record {
@@ -36,8 +31,10 @@ returns-clause-task c =
 -- memory can be wanted only where the unit starts
 pub returns-clause-clear : goal.returns-clause-clear
 returns-clause-clear c =
-    on_err c.start_unit.result (λ order stands. wants_start order c.args.self.now c.args.number _ (c.in-Ok.ensures.ok order stands))
+    where_err c.start_unit.result (λ order stands.
+    starts_now order c.args.self.now c.args.number _ (c.in-Ok.ensures.ok order stands))
 
 pub returns-in_err-keys-in-Ok-clause-clear : goal.returns-in_err-keys-in-Ok-clause-clear
 returns-in_err-keys-in-Ok-clause-clear c =
-    on_err c.from_residual.result (λ order stands. wants_start order c.args.self.now c.args.number _ (c.in-Ok.ensures.ok order stands))
+    where_err c.from_residual.result (λ order stands.
+    starts_now order c.args.self.now c.args.number _ (c.in-Ok.ensures.ok order stands))

@@ -1,4 +1,4 @@
-use Rattle.std.proofs.Common.{◌∙◌, sym, ap, refl}
+use Rattle.std.proofs.Common.{◌∙◌, sym, ap}
 use Rattle.finite_map.specs.FiniteMap.{insert}
 use Rattle.client_trx.specs.Live.{is_sent}
 use Rattle.client_trx.specs.declared.status.Outcome.{Outcome}
@@ -30,6 +30,7 @@ returns-in-Ends c =
     tell_ends c.args.self.now c.args.begin c.args.number c.args.verdict c.in-Some.session
     (sym c.session_of.ensures ∙ c.in-Some.is) c.in-Some-take.trx (sym c.take.ensures.value ∙ c.in-Some-take.is)
     (sym (c.is_sent.ensures ∙ ap is_sent c.status.ensures) ∙ c.if-not-is_sent.false) c.in-Ends.reply c.judged.new.self
-    (ap (λ (o : Outcome). (o, c.judged.new.self)) (sym c.in-Ends.is) ∙ c.judged.ensures) _ refl
-    c.take.ensures.after c.put-in-Ends.ensures c.release.ensures.locks c.roll_back.ensures.committed c.roll_back.ensures.changes
-    c.roll_back.ensures.spare
+    (ap (λ (o : Outcome). (o, c.judged.new.self)) (sym c.in-Ends.is) ∙ c.judged.ensures)
+    c.take.new.self c.put-in-Ends.new.self c.release.new.self c.roll_back.new.self
+    c.take.ensures.after c.put-in-Ends.ensures c.release.ensures.locks
+    c.roll_back.ensures.committed c.roll_back.ensures.changes c.roll_back.ensures.spare

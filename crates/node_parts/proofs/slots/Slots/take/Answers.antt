@@ -17,7 +17,8 @@ returns-then-session-lt33-clause-after g c =
 pub returns-then-session-lt33-clause-within : goal.returns-then-session-lt33-clause-within
 returns-then-session-lt33-clause-within g c =
     item_within c.args.self.now c.args.session c.take.result
-    (has_sessions c.self.inside.places.items c.args.self.now c.self.view_is c.self.invariant)
+    (has_sessions c.self.inside.end c.self.inside.places.items c.args.self.now c.self.view_is
+    c.self.invariant)
     (c.take.ensures.value
     ∙ taken_from c.self.inside.places.items c.args.self.now c.args.session c.from-session.result c.index_mut.result.now
     c.self.view_is c.self.invariant.count c.from-session.ensures c.if-session-lt33.true c.index_mut.ensures.value)
