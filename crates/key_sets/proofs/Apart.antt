@@ -1,34 +1,22 @@
 -- Lists of keys where no parts stand twice: a key is a member where a look-up finds it.
 use Rattle.std.proofs.Common.{◌≡◌, Bool, true, false, ◌&&◌, cond, inl, inr, List, [], ◌∷◌, None, Some, refl, sym, ap, ◌∙◌}
 use Rattle.std.specs.Prelude.{T}
-use Rattle.std.specs.List.{list_any, IsDistinct}
-use Rattle.std.specs.Map.{keys_of}
 use Rattle.std.specs.Ordering.{is_lt, is_eq}
 use Rattle.std.specs.declared.cmp.Ordering.{Ordering}
 use Rattle.std.specs.declared.cmp.Ordering.TheVariants.{Less, Equal, Greater}
 use Rattle.std.specs.FinMap.Entries.{find, is_sorted, below_all}
-use Rattle.std.proofs.lemmas.Map.Keys.{IsDistinct-head, IsDistinct-tail}
 use Rattle.finite_map.specs.FiniteMap.{get, get-entries}
 use Rattle.key_sets.specs.declared.kind.Kind.{Kind}
 use Rattle.key_sets.specs.declared.parts.Parts.{Parts}
-use Rattle.key_sets.specs.Parts.{parts_cmp, same_parts, parts_eq}
-use Rattle.key_sets.specs.Keys.{Keys, keys_from}
-use Rattle.key_sets.proofs.ListLemmas.{In, some_in, any_of, same_answer}
+use Rattle.key_sets.specs.Parts.{parts_cmp, same_parts}
+use Rattle.key_sets.specs.Keys.{Keys}
+use Rattle.key_sets.proofs.ListLemmas.{In}
 use Rattle.key_sets.proofs.PartsLemmas.{same_parts-exact, same_parts-itself}
-use Rattle.key_sets.proofs.TableLemmas.{get-keys_from, lookup-find, none_here}
 
 -- no parts stand twice
 abbrev pub Apart : List (Parts × Kind) → Type 0
 Apart [] = Unit {0}
 Apart (e ∷ es) = (find parts_cmp e.0 es ≡ None) × Apart es
-
--- as of the table's entries
-pub Apart-from_distinct : (es : List (Parts × Kind)) → IsDistinct parts_eq (keys_of es) → Apart es
-Apart-from_distinct [] h = tt
-Apart-from_distinct (e ∷ es) h = (
-  sym (lookup-find e.0 es) ∙ none_here e.0 es (IsDistinct-head parts_eq e.0 (keys_of es) h),
-  Apart-from_distinct es (IsDistinct-tail parts_eq e.0 (keys_of es) h),
-)
 
 both_true : (a b : Bool) → T (a && b) → T a × T b
 both_true true b h = (tt, h)
@@ -45,7 +33,7 @@ find_below p (e ∷ es) h =
     let less = both_true _ _ h in
     ap (λ b. cond b (Some e.1) (find parts_cmp p es)) (below_not_same (parts_cmp p e.0) less.0) ∙ find_below p es less.1
 
--- and of the map's entries
+-- as of the set's keys
 pub Apart-from_sorted : (es : List (Parts × Kind)) → T (is_sorted parts_cmp es) → Apart es
 Apart-from_sorted [] h = tt
 Apart-from_sorted (e ∷ es) h =
@@ -90,16 +78,3 @@ get_from_in keys q k i = get-entries keys q ∙ find_from_in q k keys.entries (A
 
 pub in_from_get : (keys : Keys) (q : Parts) (k : Kind) → get keys q ≡ Some k → In (q, k) keys.entries
 in_from_get keys q k h = in_from_find q k keys.entries (sym (get-entries keys q) ∙ h)
-
--- the table and the map have the same members, so some key of the one passes a test where one of the other does
-pub any-keys_from : (f : Parts × Kind → Bool) (es : List (Parts × Kind)) → Apart es
-    → list_any f es ≡ list_any f (keys_from es).entries
-any-keys_from f es apart =
-    let seen = λ (q : Parts). get-keys_from es q ∙ lookup-find q es in
-    same_answer _ _
-    (λ h. let found = some_in f es h in
-    any_of f found.0 (keys_from es).entries
-    (in_from_get (keys_from es) found.0.0 found.0.1 (seen found.0.0 ∙ find_from_in found.0.0 found.0.1 es apart found.1)) found.2)
-    (λ h. let found = some_in f (keys_from es).entries h in
-    any_of f found.0 es
-    (in_from_find found.0.0 found.0.1 es (sym (seen found.0.0) ∙ get_from_in (keys_from es) found.0.0 found.0.1 found.1)) found.2)

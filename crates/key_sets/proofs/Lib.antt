@@ -1,4 +1,5 @@
 pub mod PartsLemmas
+pub mod PlaceLemmas
 pub mod TableLemmas
 pub mod WithKey
 pub mod ListLemmas
@@ -11,5 +12,3 @@ pub mod UnionLaws
 pub mod CoverLaws
 pub mod KeyLaws
 pub mod Examples
-pub mod AllLemmas
-pub mod WalkLemmas

@@ -4,14 +4,13 @@ use Rattle.std.specs.Prelude.{is_none}
 use Rattle.std.specs.Map.{keys_of}
 use Rattle.std.specs.FinMap.Entries.{find}
 use Rattle.std.proofs.lemmas.Map.Entries.{length-keys_of}
-use Rattle.finite_map.specs.FiniteMap.{get, len, get-entries, len-entries, same_map}
+use Rattle.finite_map.specs.FiniteMap.{get, len, get-entries, len-entries}
 use Rattle.key_sets.specs.declared.kind.Kind.{Kind}
 use Rattle.key_sets.specs.declared.parts.Parts.{Parts}
 use Rattle.key_sets.specs.Kinds.{raised, joined}
 use Rattle.key_sets.specs.Parts.{parts_cmp, same_parts}
-use Rattle.key_sets.specs.Keys.{Keys, keys_from, with_key, with_keys, union}
-use Rattle.key_sets.proofs.PartsLemmas.{parts_total, parts_exact, parts_equivalence, same_parts-exact}
-use Rattle.key_sets.proofs.TableLemmas.{get-keys_from, lookup-find}
+use Rattle.key_sets.specs.Keys.{Keys, with_key, with_keys, union}
+use Rattle.key_sets.proofs.PartsLemmas.{parts_equivalence, same_parts-exact}
 use Rattle.key_sets.proofs.Apart.{Apart, Apart-entries}
 use Rattle.key_sets.proofs.WithKey.{get-with_key, len-with_key}
 
@@ -49,16 +48,22 @@ pub get-union : (a b : Keys) (q : Parts) → get (union a b) q ≡ joined (get a
 get-union a b q =
     get-with_keys a b.entries (Apart-entries b) q ∙ ap (joined (get a q)) (sym (get-entries b q))
 
--- to add the table's entries, in any order, is to join with the set
-pub with_keys-union : (a : Keys) (es : List (Parts × Kind)) → Apart es → with_keys a es ≡ union a (keys_from es)
-with_keys-union a es apart = same_map parts_total parts_exact _ _ (λ q.
-    get-with_keys a es apart q
-    ∙ ap (joined (get a q)) (sym (lookup-find q es) ∙ sym (get-keys_from es q))
-    ∙ sym (get-union a (keys_from es) q))
-
 -- the keys whose parts the set lacks
 abbrev pub new_parts : Keys → List (Parts × Kind) → List Parts
 new_parts keys es = filter (λ p. is_none (get keys p)) (keys_of es)
+
+pub count-new_parts : (keys : Keys) (es : List (Parts × Kind))
+    → length (filter (λ (e : Parts × Kind). is_none (get keys e.0)) es) ≡ length (new_parts keys es)
+count-new_parts keys [] = refl
+count-new_parts keys (e ∷ es) = by (is_none (get keys e.0)) (count-new_parts keys es)
+  where
+    lacked : List (Parts × Kind)
+    lacked = filter (λ (f : Parts × Kind). is_none (get keys f.0)) es
+
+    by : (b : Bool) → length lacked ≡ length (new_parts keys es)
+        → length (cond b (e ∷ lacked) lacked) ≡ length (cond b (e.0 ∷ new_parts keys es) (new_parts keys es))
+    by true same = ap suc same
+    by false same = same
 
 first_lacks : (b : Bool) (k : Kind) (o : Option Kind) → cond b (Some k) o ≡ None → (b ≡ false) × (o ≡ None)
 first_lacks true k o h = cc

@@ -1,8 +1,9 @@
-ghost use Rattle.std.specs.Prelude.{◌≡◌, ◌↔◌, ◌<◌, ◌≤◌, None, IfOk, OnOk, OnErr, IsErrOf, IsOk, IsTrue, IsPermutation};
+ghost use Rattle.std.specs.Prelude.{◌≡◌, ◌↔◌, ◌<◌, ◌≤◌, None, IfOk, IfErr, OnOk, OnErr, IsErrOf, IsOk, IsTrue, length};
 ghost use Rattle.std.specs.List.{list_all};
-ghost use Rattle.std.specs.Map.Iter.{ShowsInOrder, deref_pair};
+ghost use Rattle.std.specs.List.Sorted.{IsSearchInRange};
 ghost use Rattle.finite_map.specs.FiniteMap as map;
 ghost use Rattle.key_sets.specs.Keys as keys;
+ghost use Rattle.key_sets.specs.Places.{IsAt, IsGap};
 
 mod meeting;
 
@@ -10,37 +11,42 @@ use crate::fault::KeyFault;
 use crate::kind::Kind;
 use crate::parts::Parts;
 use crate::test::{PartsTest, all_admitted};
-use indexmap::IndexMap;
-use indexmap::map::Iter;
 use item_list::ItemList;
 pub use meeting::{conflicts, meet, touches};
+use smallvec::SmallVec;
 use std::alloc::{AllocError as NoMemory, Global};
 use std::marker::Model;
 
 /// Keys by their parts, each with its kind.
 pub type KeyList = ItemList<(Parts, Kind)>;
 
+// So many keys lie in the set itself: most sets have the keys of one or two rows.
+const INLINE: usize = 2;
+
 /// A set of keys, each parts once, of at most `KeySet::LIMIT` keys. It is seen as a map from parts
-/// to kinds.
+/// to kinds. A set of at most two keys takes no memory.
 #[derive(Debug, Drop)]
 pub struct KeySet {
-    kinds: IndexMap<Parts, Kind>,
+    // In the order of the parts.
+    keys: SmallVec<(Parts, Kind), INLINE>,
 }
 
 impl Model for KeySet {
-    ghost use Rattle.std.specs.Prelude.{◌≤◌};
+    ghost use Rattle.std.specs.Prelude.{◌≤◌, T};
+    ghost use Rattle.std.specs.FinMap.Entries.{is_sorted};
     ghost use Rattle.finite_map.specs.FiniteMap.{code, len};
     ghost use Rattle.key_sets.specs.Kinds.{coded_kind};
-    ghost use Rattle.key_sets.specs.Parts.{coded_parts};
+    ghost use Rattle.key_sets.specs.Parts.{coded_parts, parts_cmp};
     ghost use Rattle.key_sets.specs.Keys.{Keys, LIMIT, keys_from};
 
     ghost Value = { Keys };
 
     ghost coded = { code coded_parts coded_kind };
 
-    ghost view = { λ set. keys_from set.kinds.entries };
+    ghost view = { λ set. keys_from set.keys.items };
 
-    ghost invariant = { λ set. len (keys_from set.kinds.entries) ≤ LIMIT };
+    ghost invariant = { λ set. T (is_sorted parts_cmp set.keys.items)
+        × (len (keys_from set.keys.items) ≤ LIMIT) };
 }
 
 impl KeySet {
@@ -53,7 +59,7 @@ impl KeySet {
         ensures succeeds { IsOk result }
     {
         Ok(KeySet {
-            kinds: IndexMap::new(alloc),
+            keys: SmallVec::new(alloc),
         })
     }
 
@@ -64,22 +70,42 @@ impl KeySet {
             ↔ ((map.get self.old parts.now ≡ None) × (map.len self.old ≡ keys.LIMIT)) }
         ensures err { OnErr result (self.new ≡ self.old) }
     {
-        let old = self.kind_at(parts);
-        if old.is_none() && self.len() >= KeySet::LIMIT {
+        let at = match self.place_of(parts) {
+            Ok(at) => {
+                let old = self.as_slice()[at].1;
+                self.keys[at] = (*parts, old.stronger(kind));
+                return Ok(());
+            }
+            Err(at) => at,
+        };
+        if self.len() >= KeySet::LIMIT {
             return Err(KeyFault::Full);
         }
-        match self.kinds.insert(*parts, kind.over(old)) {
-            Ok(_) => {}
+        match self.keys.insert(at, (*parts, kind)) {
+            Ok(()) => {}
             Err(_) => return Err(KeyFault::NoMemory),
         }
         Ok(())
+    }
+
+    // Where the key with these parts stands, or where it would go.
+    fn place_of(&self, parts: &Parts) -> Result<usize, usize>
+        ensures within { IsSearchInRange result (length self.now.entries) }
+        ensures found { IfOk result (IsAt parts.now self.now.entries) }
+        ensures absent { IfErr result (IsGap parts.now self.now.entries) }
+    {
+        let keys = self.as_slice();
+        keys.binary_search_by_key(parts, |key| key.0)
     }
 
     /// The kind of the key with these parts; None where the set has no such key.
     pub fn kind_at(&self, parts: &Parts) -> Option<Kind>
         ensures { result ≡ map.get self.now parts.now }
     {
-        self.kinds.get(parts).copied()
+        match self.place_of(parts) {
+            Ok(at) => Some(self.as_slice()[at].1),
+            Err(_) => None,
+        }
     }
 
     /// The number of keys.
@@ -87,43 +113,42 @@ impl KeySet {
         ensures count { result ≡ map.len self.now }
         ensures within { result ≤ keys.LIMIT }
     {
-        self.kinds.len()
+        self.keys.len()
     }
 
     /// Whether it has no key.
     pub fn is_empty(&self) -> bool
         ensures { IsTrue result ↔ (self.now ≡ map.empty) }
     {
-        self.kinds.is_empty()
+        self.as_slice().is_empty()
     }
 
     /// Whether the parts of all keys pass the test.
     pub fn all<T: PartsTest>(&self, test: &T) -> bool
         ensures { result ≡ list_all (λ key. T.admits test.now key.0) self.now.entries }
     {
-        all_admitted(&self.kinds, test)
+        all_admitted(self.as_slice(), test)
     }
 
     /// The allocator that the set grows by.
     pub fn alloc(&self) -> Global {
-        *self.kinds.allocator()
+        *self.keys.allocator()
     }
 
-    /// Each key once, in no certain order. It takes no memory.
-    pub fn iter(&self) -> Iter<'_, Parts, Kind>
-        ensures keys { IsPermutation self.now.entries result }
-        ensures runs { ShowsInOrder (deref_pair {K = Parts} {X = Kind}) }
+    /// Each key once, in the order of their parts: by table, a table before its rows, then by row.
+    /// It takes no memory.
+    pub fn as_slice(&self) -> &[(Parts, Kind)]
+        ensures { result.now ≡ self.now.entries }
     {
-        self.kinds.iter()
+        self.keys.as_slice()
     }
 
-    /// The keys in the order of their parts: by table, a table before its rows, then by row.
+    /// The keys in the order of their parts.
     pub fn sorted(&self) -> Result<KeyList, NoMemory>
         ensures { IfOk result (λ list. list ≡ self.now.entries) }
     {
-        let pairs = self.kinds.iter().map(|(parts, kind)| (*parts, *kind));
-        let mut items: Vec<(Parts, Kind)> = pairs.collect(self.alloc())?;
-        items.sort_unstable_by_key(|item| item.0);
+        let mut items = Vec::new(self.alloc());
+        items.extend_from_slice(self.as_slice())?;
         Ok(ItemList::from(items))
     }
 
@@ -132,7 +157,7 @@ impl KeySet {
         ensures { IfOk result (λ set. set ≡ self.now) }
     {
         Ok(KeySet {
-            kinds: self.kinds.clone()?,
+            keys: SmallVec::from_slice(self.alloc(), self.keys.as_slice())?,
         })
     }
 
@@ -149,7 +174,7 @@ impl KeySet {
             Ok(both) => both,
             Err(_) => return Err(KeyFault::NoMemory),
         };
-        for (parts, kind) in &other.kinds {
+        for (parts, kind) in other.as_slice() {
             match both.add(parts, *kind) {
                 Ok(()) => {}
                 Err(fault) => return Err(fault),
@@ -171,10 +196,8 @@ impl KeySet {
     fn union_len(&self, other: &KeySet) -> usize
         ensures { result ≡ map.len (keys.union self.now other.now) }
     {
-        let added = other
-            .kinds
-            .keys()
-            .filter(|parts| self.kind_at(parts).is_none());
+        let keys = other.as_slice().iter();
+        let added = keys.filter(|key| self.kind_at(&key.0).is_none());
         self.len() + added.count()
     }
 }

@@ -1,10 +1,11 @@
 ghost use Rattle.std.specs.Prelude.{◌≡◌};
-ghost use Rattle.key_sets.specs.Kinds.{kinds_conflict, kinds_touch, raised, stronger};
+ghost use Rattle.key_sets.specs.Kinds.{kinds_conflict, kinds_touch, stronger};
 
 /// How strongly a key binds, in rising strength.
-#[derive(Clone, Copy, Debug, PartialEq, Eq)]
+#[derive(Clone, Copy, Debug, Default, PartialEq, Eq)]
 pub enum Kind {
     /// Read and held against change.
+    #[default]
     Shared,
     /// Changed in place.
     Update,
@@ -42,16 +43,6 @@ impl Kind {
             (Kind::Exclusive, _) | (_, Kind::Exclusive) => Kind::Exclusive,
             (Kind::Update, _) | (_, Kind::Update) => Kind::Update,
             (Kind::Shared, Kind::Shared) => Kind::Shared,
-        }
-    }
-
-    // The stronger of this kind and the one that was there, if any.
-    pub(crate) fn over(self, old: Option<Kind>) -> Kind
-        ensures { result ≡ raised old self }
-    {
-        match old {
-            Some(old) => old.stronger(self),
-            None => self,
         }
     }
 }

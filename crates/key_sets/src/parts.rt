@@ -4,7 +4,7 @@ ghost use Rattle.key_sets.specs.Parts.{table_of};
 use std::hash::{Hash, Hasher};
 
 /// What a key names: a table, or a row of a table. Names are padded with zero bytes.
-#[derive(Clone, Copy, Debug, PartialEq, Eq, PartialOrd, Ord)]
+#[derive(Clone, Copy, Debug, Default, PartialEq, Eq, PartialOrd, Ord)]
 pub struct Parts {
     pub table: [u8; 16],
     pub row: Option<[u8; 16]>,

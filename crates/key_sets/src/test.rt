@@ -3,7 +3,6 @@ ghost use Rattle.std.specs.List.{list_all};
 
 use crate::kind::Kind;
 use crate::parts::Parts;
-use indexmap::IndexMap;
 
 /// A test of parts, for `KeySet::all`.
 pub trait PartsTest {
@@ -16,8 +15,8 @@ pub trait PartsTest {
         ensures { result ≡ admits self.now parts.now };
 }
 
-pub(crate) fn all_admitted<T: PartsTest>(kinds: &IndexMap<Parts, Kind>, test: &T) -> bool
-    ensures { result ≡ list_all (λ key. T.admits test.now key.0) kinds.now.entries }
+pub(crate) fn all_admitted<T: PartsTest>(keys: &[(Parts, Kind)], test: &T) -> bool
+    ensures { result ≡ list_all (λ key. T.admits test.now key.0) keys.now }
 {
-    kinds.iter().all(|(parts, _)| test.admits(parts))
+    keys.iter().all(|(parts, _)| test.admits(parts))
 }

@@ -50,7 +50,7 @@ impl KeySet {
     fn keys_meet(&self, relation: Relation, other: &KeySet) -> bool
         ensures { result ≡ probes.keys_meet (probes.kind_test relation) self.now other.now }
     {
-        let mut pairs = self.kinds.iter();
+        let mut pairs = self.as_slice().iter();
         pairs.any(|(parts, kind)| relation.holds_there(*kind, other.kind_at(parts)))
     }
 
@@ -58,7 +58,7 @@ impl KeySet {
     fn tables_meet(&self, relation: Relation, other: &KeySet) -> bool
         ensures { result ≡ probes.tables_meet (probes.kind_test relation) self.now other.now }
     {
-        let mut pairs = self.kinds.iter();
+        let mut pairs = self.as_slice().iter();
         pairs.any(|(parts, _)| other.table_meets(relation, parts))
     }
 
@@ -73,7 +73,7 @@ impl KeySet {
     fn has_table(&self) -> bool
         ensures { result ≡ probes.has_table self.now }
     {
-        let mut pairs = self.kinds.iter();
+        let mut pairs = self.as_slice().iter();
         pairs.any(|(parts, _)| parts.row.is_none())
     }
 

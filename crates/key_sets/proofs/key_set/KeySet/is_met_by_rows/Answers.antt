@@ -1,5 +1,5 @@
 -- Where there is no key of a table no row meets one.
-use Rattle.std.proofs.Common.{◌≡◌, false, sym, ◌∙◌}
+use Rattle.std.proofs.Common.{false, sym, ◌∙◌}
 use Rattle.key_sets.specs.Probes.{kind_test, tables_meet}
 use Rattle.key_sets.proofs.ListLemmas.{same_answer}
 use Rattle.key_sets.proofs.ProbeLemmas.{table_there}

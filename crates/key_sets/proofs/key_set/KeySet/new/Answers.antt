@@ -6,4 +6,4 @@ use Rattle.key_sets.specs.Parts.{parts_cmp}
 use Rattle.key_sets.proofs.key_set.KeySet.new.Goals as goal
 
 pub invariant_of-result : goal.invariant_of-result
-invariant_of-result c = rw c.new.ensures.empty (omega (arith, len-empty parts_cmp Kind))
+invariant_of-result c = rw c.new.ensures.items (tt, omega (arith, len-empty parts_cmp Kind))
