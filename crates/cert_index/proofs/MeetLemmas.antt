@@ -4,7 +4,6 @@ use Rattle.std.specs.Prelude.{flat_map}
 use Rattle.std.specs.List.{list_any}
 use Rattle.std.proofs.lemmas.List.Concat.{flat_map-append}
 use Rattle.std.proofs.lemmas.List.Folds.{list_any-append}
-use Rattle.std.proofs.lemmas.List.Sorted.{list_any-IsPermutation, length_permutation}
 use Rattle.finite_map.specs.FiniteMap.{len}
 use Rattle.key_sets.specs.declared.kind.Kind.{Kind}
 use Rattle.key_sets.specs.declared.kind.Kind.TheVariants.{Shared, Update, Exclusive}
@@ -89,16 +88,6 @@ module _ (test : Kind → Kind → Bool) where
       sym (greater-none found)
       ∙ ap (greater found) (sym (ap (λ ks. latest (meets test ks) es) is ∙ latest-no_keys es))
       ∙ at_found
-
-  -- the order of the keys is nothing to it
-  pub latest-moved : (ks ls : List (Parts × Kind)) → IsPermutation ks ls → (es : List Entry)
-      → latest (meets test ks) es ≡ latest (meets test ls) es
-  latest-moved ks ls moved es =
-      let same : (p : Parts × Kind) → list_any (pairs_meet test p) (flat_map pairs_of_key ks)
-      ≡ list_any (pairs_meet test p) (flat_map pairs_of_key ls) =
-      λ p. any-flat (pairs_meet test p) pairs_of_key ks ∙ list_any-IsPermutation _ ks ls moved
-      ∙ sym (any-flat (pairs_meet test p) pairs_of_key ls) in
-      λ i. latest (λ e. list_any (λ p. same p i) (pairs_of_key e.key)) es
 
   -- an entry meets the key of a row by the key itself or at its table
   row_meets : (p : Parts) (kind : Kind) (name : List ℕ) → p.row ≡ Some name → (e : Entry)
@@ -193,8 +182,3 @@ module _ (test : Kind → Kind → Bool) (p : Parts) (kind : Kind) where
       ∙ (λ i. greater (latest-and (test Shared kind) (is_at (pair p Shared)) es i)
       (greater (latest-and (test Update kind) (is_at (pair p Update)) es i)
       (latest-and (test Exclusive kind) (is_at (pair p Exclusive)) es i))))
-
--- a walk goes over as many keys as the set has
-pub length-moved : (keys : Keys) (ls : List (Parts × Kind)) → IsPermutation keys.entries ls → length ls ≡ len keys
-unfolding len
-length-moved keys ls moved = length_permutation keys.entries ls moved

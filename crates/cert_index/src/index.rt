@@ -87,8 +87,7 @@ impl Index {
         ensures ok { OnOk result (self.new ≡ self.old ++ entries_of number keys.now.entries) }
         ensures err { OnErr result (self.new ≡ self.old) }
     {
-        let list = keys.sorted()?;
-        let keys = list.as_slice();
+        let keys = keys.as_slice();
         self.latest.reserve(2 * keys.len())?;
         self.kept.reserve(keys.len())?;
         enter_all(&mut self.latest, &mut self.kept, number, keys);
@@ -120,7 +119,7 @@ impl Index {
         ensures conflict { relation ≡ Conflict → steps.new ≤ steps.old + 4 * len keys.now }
     {
         let mut latest = None;
-        for (parts, kind) in keys.iter() {
+        for (parts, kind) in keys.as_slice() {
             latest = greater(latest, self.met_by(relation, parts, *kind, steps));
         }
         latest

@@ -71,8 +71,7 @@ pub(crate) fn add_all(all: &mut KeySet, keys: &KeySet) -> Result<bool, NoMemory>
     ensures full { IfOk result (λ fits. fits ≡ false → LIMIT < len (union all.old keys.now)) }
     ensures all { IfOk result (λ fits. fits ≡ true → all.new ≡ union all.old keys.now) }
 {
-    let list = keys.sorted()?;
-    for (parts, kind) in list.as_slice() {
+    for (parts, kind) in keys.as_slice() {
         match all.add(parts, *kind) {
             Ok(()) => {}
             Err(KeyFault::Full) => return Ok(false),

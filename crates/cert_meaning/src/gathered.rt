@@ -104,7 +104,7 @@ impl Gathered {
             (λ large. large ≡ nat_lt LIMIT (len (whole_keys self.now keys.now))) }
     {
         match &self.keys {
-            Some(kept) => union_passes(kept, keys),
+            Some(kept) => Ok(union_passes(kept, keys)),
             None => is_too_large(alloc, self.fragments.as_slice(), keys),
         }
     }

@@ -21,26 +21,21 @@ pub(crate) fn union_within(one: &KeySet, other: &KeySet) -> Result<Option<KeySet
 
 /// Whether both sets have together more keys than one may have. It costs the keys of the second,
 /// and no key where both are small.
-pub(crate) fn union_passes(one: &KeySet, other: &KeySet) -> Result<bool, NoMemory>
-    ensures { IfOk result
-        (λ passes. passes ≡ nat_lt LIMIT (len (union one.now other.now))) }
+pub(crate) fn union_passes(one: &KeySet, other: &KeySet) -> bool
+    ensures { result ≡ nat_lt LIMIT (len (union one.now other.now)) }
 {
     if one.len() + other.len() <= KeySet::LIMIT {
-        return Ok(false);
+        return false;
     }
-    let both = one.len() + new_keys(one, other)?;
-    Ok(both > KeySet::LIMIT)
+    let both = one.len() + new_keys(one, other);
+    both > KeySet::LIMIT
 }
 
 // How many keys of the other set have parts that the one lacks.
-fn new_keys(one: &KeySet, other: &KeySet) -> Result<usize, NoMemory>
-    ensures { IfOk result
-        (λ count. count ≡ count_by (λ key. is_none (get one.now key.0)) other.now.entries) }
+fn new_keys(one: &KeySet, other: &KeySet) -> usize
+    ensures { result ≡ count_by (λ key. is_none (get one.now key.0)) other.now.entries }
 {
-    let keys = other.sorted()?;
-    let new = keys
-        .as_slice()
-        .iter()
-        .filter(|key| one.kind_at(&key.0).is_none());
-    Ok(new.count())
+    let keys = other.as_slice().iter();
+    let new = keys.filter(|key| one.kind_at(&key.0).is_none());
+    new.count()
 }

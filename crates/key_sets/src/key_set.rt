@@ -11,14 +11,10 @@ use crate::fault::KeyFault;
 use crate::kind::Kind;
 use crate::parts::Parts;
 use crate::test::{PartsTest, all_admitted};
-use item_list::ItemList;
 pub use meeting::{conflicts, meet, touches};
 use smallvec::SmallVec;
 use std::alloc::{AllocError as NoMemory, Global};
 use std::marker::Model;
-
-/// Keys by their parts, each with its kind.
-pub type KeyList = ItemList<(Parts, Kind)>;
 
 // So many keys lie in the set itself: most sets have the keys of one or two rows.
 const INLINE: usize = 2;
@@ -141,15 +137,6 @@ impl KeySet {
         ensures { result.now ≡ self.now.entries }
     {
         self.keys.as_slice()
-    }
-
-    /// The keys in the order of their parts.
-    pub fn sorted(&self) -> Result<KeyList, NoMemory>
-        ensures { IfOk result (λ list. list ≡ self.now.entries) }
-    {
-        let mut items = Vec::new(self.alloc());
-        items.extend_from_slice(self.as_slice())?;
-        Ok(ItemList::from(items))
     }
 
     /// A set with the same keys.

@@ -10,7 +10,7 @@ mod relation;
 mod test;
 
 pub use fault::KeyFault;
-pub use key_set::{KeyList, KeySet, conflicts, meet, touches};
+pub use key_set::{KeySet, conflicts, meet, touches};
 pub use kind::Kind;
 pub use laws::{key_set_laws, kind_laws};
 pub use parts::Parts;

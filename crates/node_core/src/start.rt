@@ -120,13 +120,13 @@ impl NodeParts {
     {
         progress_in_range(&self.at);
         few_live(&self.live);
-        let list = keys.sorted()?;
+        let held = keys.copy()?;
         let aborted = victims(&self.locks, &keys)?;
         let sent = self.rollbacks(aborted.as_slice())?;
-        self.reserve_unit(list.len(), rows)?;
+        self.reserve_unit(held.len(), rows)?;
         self.enter(number, keys, rows, sent)?;
         self.kill_all(number, aborted.as_slice());
-        self.locks.hold(Holder::Unit(number), list.as_slice());
+        self.locks.hold(Holder::Unit(number), held.as_slice());
         Ok(aborted)
     }
 

@@ -159,12 +159,12 @@ impl LockTable {
     pub fn touching(&self, keys: &KeySet) -> Result<SessionList, NoMemory>
         ensures { IfOk result (λ sessions. sessions ≡ touching_sessions self.now.locks keys.now) }
     {
-        let list = keys.sorted()?;
-        let mut sessions: Vec<u8> = Vec::new(list.alloc());
+        let list = keys.as_slice();
+        let mut sessions: Vec<u8> = Vec::new(keys.alloc());
         for session in 0..self.last_session {
-            self.add_touched(&mut sessions, session, list.as_slice())?;
+            self.add_touched(&mut sessions, session, list)?;
         }
-        self.add_touched(&mut sessions, self.last_session, list.as_slice())?;
+        self.add_touched(&mut sessions, self.last_session, list)?;
         Ok(ItemList::from(sessions))
     }
 

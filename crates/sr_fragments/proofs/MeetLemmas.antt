@@ -1,10 +1,9 @@
 -- Which fragments some keys touch, told by the kinds at the same parts.
-use Rattle.std.proofs.Common.{◌≡◌, ℕ, Bool, true, false, ◌||◌, ◌&&◌, List, [], ◌∷◌, ◌++◌, Option, Some, None, refl, sym, ap, ◌∙◌, IsPermutation}
+use Rattle.std.proofs.Common.{◌≡◌, ℕ, Bool, true, false, ◌||◌, ◌&&◌, List, [], ◌∷◌, ◌++◌, Option, Some, None, refl, sym, ap, ◌∙◌}
 use Rattle.std.specs.Prelude.{flat_map}
 use Rattle.std.specs.List.{list_any}
 use Rattle.std.proofs.lemmas.List.Concat.{flat_map-append}
 use Rattle.std.proofs.lemmas.List.Folds.{list_any-append}
-use Rattle.std.proofs.lemmas.List.Sorted.{list_any-IsPermutation}
 use Rattle.key_sets.specs.declared.kind.Kind.{Kind}
 use Rattle.key_sets.specs.declared.kind.Kind.TheVariants.{Shared}
 use Rattle.key_sets.specs.declared.parts.Parts.{Parts}
@@ -98,17 +97,6 @@ module _ where
       sym (greater-none found)
       ∙ ap (greater found) (sym (ap (λ ks. latest (meets ks) es) is ∙ latest-no_keys es))
       ∙ at_found
-
-  -- the order of the keys is nothing to it
-  pub latest-moved : (ks ls : List (Parts × Kind)) → IsPermutation ks ls → (es : List Fragment)
-      → latest (meets ks) es ≡ latest (meets ls) es
-  latest-moved ks ls moved es =
-      let same : (p : Parts × Kind) → list_any (pairs_meet kinds_touch p) (flat_map pairs_of_key ks)
-      ≡ list_any (pairs_meet kinds_touch p) (flat_map pairs_of_key ls) =
-      λ p. any-flat (pairs_meet kinds_touch p) pairs_of_key ks
-      ∙ list_any-IsPermutation _ ks ls moved
-      ∙ sym (any-flat (pairs_meet kinds_touch p) pairs_of_key ls) in
-      λ i. latest (λ e. list_any (λ p. same p i) (pairs_of e.keys)) es
 
   -- a fragment meets the key of a row by the key itself or at its table
   row_meets : (p : Parts) (kind : Kind) (name : List ℕ) → p.row ≡ Some name → (e : Fragment)

@@ -4,7 +4,6 @@ use Rattle.std.specs.Prelude.{is_some}
 use Rattle.std.specs.Bool.{beq}
 use Rattle.std.specs.List.{list_any}
 use Rattle.std.proofs.lemmas.List.Folds.{list_any_more, list_any-append}
-use Rattle.std.proofs.lemmas.List.Sorted.{list_any-IsPermutation}
 use Rattle.wsrep_base.specs.declared.ids.TrxId.{TrxId}
 use Rattle.wsrep_base.specs.Trx.{same_trx}
 use Rattle.key_sets.specs.declared.kind.Kind.{Kind}
@@ -236,14 +235,11 @@ pub and_none : (b : Bool) → b && false ≡ false
 and_none true = refl
 and_none false = refl
 
-pub forgotten-all : (trx : TrxId) (left keys : List (Parts × Kind)) (moved : List (Parts × Kind))
-    (p : Place) (was had : Option ℕ)
-    → left ≡ [] → IsPermutation keys moved
-    → cond (is_place trx left p) None was ≡ cond (is_place trx moved p) None had
+pub forgotten-all : (trx : TrxId) (left keys : List (Parts × Kind)) (p : Place) (was had : Option ℕ)
+    → left ≡ []
+    → cond (is_place trx left p) None was ≡ cond (is_place trx keys p) None had
     → was ≡ cond (is_place trx keys p) None had
-forgotten-all trx left keys moved p was had is same before =
+forgotten-all trx left keys p was had is before =
     sym (ap (λ ks. cond (is_place trx ks p) None was) is
     ∙ ap (λ b. cond b None was) (and_none (same_trx trx p.trx)))
     ∙ before
-    ∙ ap (λ b. cond (same_trx trx p.trx && b) None had)
-    (sym (list_any-IsPermutation (is_key_at p.spot) keys moved same))

@@ -42,9 +42,8 @@ impl HeldIndex {
         ensures { IfOk result (λ places. (p : Place) → is_in p places.items
             ≡ is_place trx keys.now.entries p && is_rising number (found self.now p)) }
     {
-        let list = keys.sorted()?;
         let mut places = Vec::new(alloc);
-        for (parts, kind) in list.as_slice() {
+        for (parts, kind) in keys.as_slice() {
             self.add_rising(&mut places, number, Place::of(trx, parts, *kind))?;
             if parts.row.is_some() {
                 let table = parts.table_parts();
@@ -130,7 +129,7 @@ impl HeldIndex {
         ensures found { (p : Place) → found self.new p
             ≡ cond (is_place trx keys.now.entries p) None (found self.old p) }
     {
-        for (parts, kind) in keys.iter() {
+        for (parts, kind) in keys.as_slice() {
             self.forget_key(trx, parts, *kind);
         }
     }

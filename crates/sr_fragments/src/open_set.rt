@@ -109,7 +109,7 @@ impl OpenSet {
         ensures { result ≡ greatest_touching (fragments_but self.now other_than) keys.now }
     {
         let mut greatest = None;
-        for (parts, kind) in keys.iter() {
+        for (parts, kind) in keys.as_slice() {
             greatest = greater(greatest, self.held_at(parts, *kind, other_than));
         }
         greatest

@@ -152,9 +152,8 @@ fn put_key(out: &mut ByteList, key: &(Parts, Kind)) -> Result<(), NoMemory>
 pub fn put_all_keys(out: &mut ByteList, keys: &KeySet) -> Result<(), NoMemory>
     ensures { OnOk result (out.new ≡ out.old ++ keys_text keys.now) }
 {
-    let list = keys.sorted()?;
     put_u32(out, keys.len() as u32)?;
-    for key in list.as_slice() {
+    for key in keys.as_slice() {
         put_key(out, key)?;
     }
     Ok(())

@@ -18,11 +18,11 @@ overflow_add-both c =
     let one = c.args.one.now in
     let other = c.args.other.now in
     let sum = len-union-sum one other in
-    let both = len-union-new one other _ _ c.len-3.ensures.count c.in_ok-both.ensures in
+    let both = len-union-new one other _ _ c.len-3.ensures.count c.new_keys.ensures in
     omega (arith, sum, both)
 
 pub returns : goal.returns
 returns c =
     let one = c.args.one.now in
     let other = c.args.other.now in
-    ap (nat_lt LIMIT) (len-union-new one other _ _ c.len-3.ensures.count c.in_ok-both.ensures)
+    ap (nat_lt LIMIT) (len-union-new one other _ _ c.len-3.ensures.count c.new_keys.ensures)

@@ -1,4 +1,5 @@
-use Rattle.std.proofs.Common.{fold, subst, ◌≡◌, ◌∙◌}
+use Rattle.std.proofs.Common.{fold, subst, ap, ◌≡◌, ◌∙◌}
+use Rattle.key_sets.specs.Keys.{Keys}
 use Rattle.row_locks.specs.declared.holder.Holder.TheVariants.{Unit as UnitHolder}
 use Rattle.row_locks.specs.Alike.{HoldAlike, with_held}
 use Rattle.node_meaning.specs.Steps.{send_rollback, end_killed}
@@ -22,6 +23,6 @@ returns-clause-ok c order can count =
     can c.reserve_unit.ensures.same c.reserve_unit.ensures.units sends c.in_ok-aborted.ensures kills
     c.hold.new.self
     (subst (λ list. HoldAlike c.hold.new.self.locks (with_held c.kill_all.new.self.locks.locks (UnitHolder number) list))
-    (c.as_slice-3.ensures ∙ c.in_ok-list.ensures) c.hold.ensures.keys)
+    (c.as_slice-3.ensures ∙ ap (λ (keys : Keys). keys.entries) c.in_ok-held.ensures) c.hold.ensures.keys)
     count c.in_ok-reserve_unit.ensures.rows
     (can_take_back old c.progress_in_range.ensures c.few_live.ensures c.requires.serial)

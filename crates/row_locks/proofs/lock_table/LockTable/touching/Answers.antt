@@ -18,7 +18,7 @@ loop-session-preserved c =
     touched-more c.args.self.now.locks c.args.keys.now.entries c.loop-session.session _ _ c.loop-session.invariant
     (c.in_ok-add_touched.ensures
     ∙ ap (λ (list : List (Parts × Kind)). c.loop-session.sessions.items ++ option_to_list (touched_session c.args.self.now.locks list (Session c.loop-session.session)))
-    (c.as_slice.ensures ∙ c.in_ok-list.ensures))
+    c.as_slice-list.ensures)
 
 pub returns : goal.returns
 returns c =
@@ -29,7 +29,7 @@ returns c =
     ∙ ap (λ n. filter_map (touched_session c.args.self.now.locks c.args.keys.now.entries) (map Session (range_with_len 0 n))) at)
     (c.in_ok-add_touched-2.ensures
     ∙ ap (λ (list : List (Parts × Kind)). c.loop-session.sessions.items ++ option_to_list (touched_session c.args.self.now.locks list (Session c.self.inside.last_session)))
-    (c.as_slice-2.ensures ∙ c.in_ok-list.ensures)) in
+    c.as_slice-list.ensures) in
     c.from.ensures ∙ all
     ∙ ap (λ (s : LockState). filter_map (touched_session s.locks c.args.keys.now.entries) (map Session (range_with_len 0 (c.self.inside.last_session + 1)))) (sym c.self.view_is)
     ∙ touched-all c.self.inside.locks.entries c.self.inside.last_session c.args.keys.now c.self.invariant.sessions
