@@ -1,14 +1,13 @@
 -- Which entries meet some keys, told by the kinds at the same parts.
-use Rattle.std.proofs.Common.{◌≡◌, ℕ, length, Bool, true, false, cond, ◌||◌, ◌&&◌, List, [], ◌∷◌, ◌++◌, Option, Some, None, refl, sym, ap, ◌∙◌, IsPermutation}
+use Rattle.std.proofs.Common.{◌≡◌, ℕ, Bool, true, false, cond, ◌||◌, ◌&&◌, List, [], ◌∷◌, ◌++◌, Option, Some, None, refl, sym, ap, ◌∙◌}
 use Rattle.std.specs.Prelude.{flat_map}
 use Rattle.std.specs.List.{list_any}
 use Rattle.std.proofs.lemmas.List.Concat.{flat_map-append}
 use Rattle.std.proofs.lemmas.List.Folds.{list_any-append}
-use Rattle.finite_map.specs.FiniteMap.{len}
 use Rattle.key_sets.specs.declared.kind.Kind.{Kind}
 use Rattle.key_sets.specs.declared.kind.Kind.TheVariants.{Shared, Update, Exclusive}
 use Rattle.key_sets.specs.declared.parts.Parts.{Parts}
-use Rattle.key_sets.specs.Keys.{Keys, pairs_meet, pairs_of_key, table_pair}
+use Rattle.key_sets.specs.Keys.{pairs_meet, pairs_of_key, table_pair}
 use Rattle.key_sets.specs.Parts.{same_parts, table_of}
 use Rattle.cert_meaning.specs.Extremes.{greater}
 use Rattle.cert_meaning.proofs.ExtremeLemmas.{greater-assoc, greater-none}
