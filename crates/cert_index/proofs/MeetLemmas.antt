@@ -43,12 +43,6 @@ module _ {X : Type 0} where
   any-and true f xs = refl
   any-and false f xs = any-none xs
 
-  any-flat : {Y : Type 0} (f : Y → Bool) (g : X → List Y) (xs : List X)
-      → list_any f (flat_map g xs) ≡ list_any (λ x. list_any f (g x)) xs
-  any-flat f g [] = refl
-  any-flat f g (x ∷ xs) =
-      list_any-append f (g x) (flat_map g xs) ∙ ap (λ b. list_any f (g x) || b) (any-flat f g xs)
-
 module _ (test : Kind → Kind → Bool) where
   -- an entry meets two lists of keys where it meets one of them
   pub meets-append : (ks ls : List (Parts × Kind)) (e : Entry) → meets test (ks ++ ls) e ≡ meets test ks e || meets test ls e
