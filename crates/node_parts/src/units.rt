@@ -123,8 +123,10 @@ impl Units {
     {
         match self.entries.remove(&number) {
             Some(entry) => {
-                self.room -= entry.rows;
-                entry.done
+                let UnitEntry { keys, rows, done } = entry;
+                drop(keys);
+                self.room -= rows;
+                done
             }
             None => None,
         }
