@@ -138,6 +138,6 @@ fn drop_old(commits: &mut VecDeque<CommitItem>, to: u64)
         if oldest.number > to {
             return;
         }
-        let _ = commits.pop_front();
+        drop(commits.pop_front());
     }
 }

@@ -18,8 +18,8 @@ returns-then-oldest-to c =
     ∙ sym (above-oldest c.args.to oldest (drop 1 cs) c.if-oldest-to.true (subst Rise front c.loop-oldest.invariant.rise))
     ∙ ap (commits_above c.args.to) (sym front) ∙ c.loop-oldest.invariant.same
 
-pub loop-oldest-preserved-else-oldest-to : goal.loop-oldest-preserved-else-oldest-to
-loop-oldest-preserved-else-oldest-to c =
+pub loop-oldest-preserved : goal.loop-oldest-preserved
+loop-oldest-preserved c =
     let cs = c.loop-oldest.commits.items in
     let rest = c.pop_front.new.self.items in
     let oldest = c.in-Some.oldest.now in
