@@ -1,4 +1,5 @@
-use Rattle.std.proofs.Common.{fold, subst, ap, ◌≡◌, ◌∙◌}
+use Rattle.std.proofs.Common.{arith, fold, length, subst, sym, ap, ◌≡◌, ◌∙◌}
+use Rattle.finite_map.specs.FiniteMap.{len, len-entries}
 use Rattle.key_sets.specs.Keys.{Keys}
 use Rattle.row_locks.specs.declared.holder.Holder.TheVariants.{Unit as UnitHolder}
 use Rattle.row_locks.specs.Alike.{HoldAlike, with_held}
@@ -8,6 +9,17 @@ use Rattle.node_core.specs.Stands.{plain_of}
 use Rattle.node_core.specs.Starting.{Aborts, with_sent}
 use Rattle.node_core.proofs.BeginCalls.{begin_done, can_take_back}
 use Rattle.node_core.proofs.node.NodeParts.begin_unit.Goals as goal
+
+pub hold-requires : goal.hold-requires
+hold-requires c =
+    let held = c.in_ok-held.held in
+    let long : length c.as_slice-3.result.now ≡ len held = ap length c.as_slice-3.ensures ∙ sym (len-entries held) in
+    let keys : c.len.result ≡ len held = c.len.ensures.count in
+    let room = c.in_ok-reserve_unit.ensures.keys in
+    let entering : c.enter.new.self.locks.spare ≡ c.reserve_unit.new.self.locks.spare =
+    ap (λ (node : NodeParts). node.locks.spare) c.in_ok-enter.ensures.ok in
+    let spare = c.kill_all.ensures.spare in
+    record { room = omega (arith, long, keys, room, entering, spare) }
 
 pub returns-clause-ok : goal.returns-clause-ok
 returns-clause-ok c order can count =
