@@ -21,7 +21,7 @@ use Rattle.node_meaning.specs.declared.progress.Stage.TheVariants.{Started}
 use Rattle.node_meaning.specs.Node.{ModelNode, ApplyUnit, locks_of, set_live, send_any, end_with, ahead, passed_at}
 use Rattle.node_meaning.specs.Steps.{told, killed_session, kill_session, is_local, touching_before, started, start_after, start_unit, start_step}
 use Rattle.node_meaning.specs.Facts.{commit_at, ProgressInRange}
-use Rattle.node_meaning.proofs.LockLaws.{touched_from}
+use Rattle.node_meaning.proofs.TouchedLocks.{touched_from}
 use Rattle.node_meaning.proofs.PassedLaws.{from_passed}
 use Rattle.node_meaning.proofs.StartFacts.{kill_leaves}
 use Rattle.node_laws.proofs.Counts.{reach_grows}

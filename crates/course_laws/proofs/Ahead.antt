@@ -64,10 +64,6 @@ unfolding certify_step
 certified_at order n e more there =
     rw (more, there) (at_event (with_certified n) (n.at.certified + 1) _ e)
 
-pub write_not_view : (member version : ℕ) (body members : List ℕ)
-    → event.Write member body ≡ event.View version members → ⊥
-write_not_view member version body members is = cc
-
 -- the write set of the member that stands there
 abbrev pub DecidedAt : List Event → ℕ → ℕ → List ℕ → Type 0
 DecidedAt order member before body =

@@ -22,7 +22,7 @@ use Rattle.node_laws.proofs.Leaving.{left_moves, facts_left}
 use Rattle.node_laws.specs.InStep.{messages_behind}
 use Rattle.node_laws.proofs.Cleared.{left_cleared}
 use Rattle.course_laws.specs.Ordered.{pending_sets, seen_in, seen_ahead, Rises, AllEnd, IsPlaced, Entered, Stage, Early, Since}
-use Rattle.course_laws.proofs.Following.{Follows, FirstKeep, Place, Inside, Entering, Outside, still_follows}
+use Rattle.course_laws.proofs.Following.{Follows, Outside, first_keeps, still_follows}
 
 -- ---- fronts of lists
 rises_less : (low : ℕ) (ks : List ℕ) (high : ℕ) → Rises low ks high → low ≤ high
@@ -95,13 +95,6 @@ module _ (order : List Event) (n : ModelNode) where
       (filter_map decoded queued) (seen_ahead order (departed n)) (filter_map seen_in n.outbox)
       (rw (sets_parts, seen_parts) at h))
 
--- all that it took keeps its member
-took_keeps : (order : List Event) (n : ModelNode) → Place order n
-    → FirstKeep order n.at.member n.at.view n.at.taken
-took_keeps order n (Inside h) j e from below there = h.keeps j e from there
-took_keeps order n (Entering h) j e from below there = h.keeps j e from there
-took_keeps order n (Outside h) j e from below there = h.keeps j e from below there
-
 -- a node leaves its group
 pub left_follows : (order : List Event) (member : ℕ) (n : ModelNode) → Follows order member n
     → Follows order member (left_node n)
@@ -115,6 +108,6 @@ left_follows order member n h =
       place = Outside (record {
         left = refl;
         cleared = left_cleared n;
-        keeps = took_keeps order (sessions_left n) ended.place;
+        keeps = first_keeps order (sessions_left n) ended.place;
       });
     }

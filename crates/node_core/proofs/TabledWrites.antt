@@ -32,7 +32,8 @@ use Rattle.order_event.specs.declared.event.Event.{Event}
 use Rattle.node_meaning.specs.Node.{ModelNode, locks_of}
 use Rattle.node_meaning.specs.Facts.{Facts}
 use Rattle.cert_meaning.proofs.CoveredLaws.{all_from_rules}
-use Rattle.node_meaning.proofs.LockLaws.{keys_at-session, keys_of_live, free-blocker}
+use Rattle.node_meaning.proofs.LockLaws.{keys_at-session, keys_of_live}
+use Rattle.node_meaning.proofs.TouchedLocks.{free-blocker}
 use Rattle.node_core.proofs.UnitRows.{covered_row}
 use Rattle.node_core.specs.Tabled.{Tabled, changes_row, made_by, shown_of}
 use Rattle.node_core.proofs.Tabling.{sees, own_shown, not_other, made-from, put_at, tabled-edited}

@@ -4,6 +4,7 @@ pub mod Locks
 pub mod Ranks
 pub mod Stories
 pub mod Places
+pub mod Unmoved
 pub mod Moves
 pub mod Carried
 pub mod Ends

@@ -10,12 +10,11 @@ use lib.ListN.{get_elem?, length-map}
 use lib.Seq.{map-set, set-get_or}
 use Rattle.atomic_table.specs.Table.{State, Me, step, keeps, takes, gives, put_back, Allows, Splits, Joins, opening}
 use Rattle.atomic_table.proofs.Lists.{set_again, set_here, set_else, at_map}
-use Rattle.node_gate.specs.declared.view.Lock.{Lock}
 use Rattle.node_gate.specs.declared.view.Lock.TheVariants.{Idle, Waiting, Serving, Gone}
 use Rattle.node_gate.specs.declared.view.View.{View}
 use Rattle.node_gate.specs.Tickets.{Tickets}
 use Rattle.node_gate.specs.Seats.{Seats}
-use Rattle.node_gate.specs.Views.{is_alive, numbers, newcomer, cut, another, met_as, joined, gone, taking, done, loaded, lock_of, rank_of}
+use Rattle.node_gate.specs.Views.{is_alive, newcomer, cut, another, joined, gone, taking, done, loaded, lock_of, rank_of}
 use Rattle.node_gate.specs.History.{turns_of, with_turn, Allowed}
 use Rattle.node_gate.specs.Law.{HoldsInTurn, Knows, Stories, Law}
 use Rattle.node_gate.specs.Plays.{ticket_of, drew, looked, released, learned, published, read, Adds, took, gave}
@@ -26,71 +25,7 @@ use Rattle.node_gate.proofs.Locks.{draws, is_turn, reads, releases, adds, goes, 
 use Rattle.node_gate.proofs.Ranks.{as_many, splits_off, takes_in, one_seat}
 use Rattle.node_gate.proofs.Stories.{not_holding, stays, relocks, grows, splits, meets, opens_story}
 use Rattle.node_gate.proofs.Places.{kept, pushed, is_home, is_out, frees}
-
-idle_unserved : (k : ℕ) → Idle ≡ Serving k → ⊥
-idle_unserved k e = cc
-
-waiting_unserved : (t k : ℕ) → Waiting t ≡ Serving k → ⊥
-waiting_unserved t k e = cc
-
-module _ {E M : Type 0} where
-  abbrev relocked : View E M → Lock → View E M
-  relocked v l = record v { lock = l }
-
-  -- the locks of the views once one of them changed
-  locks_set : (vs : List (View E M)) (id : ℕ) (w : View E M)
-      → map lock_of (set vs id w) ≡ set (map lock_of vs) id w.lock
-  locks_set vs id w = map-set lock_of vs id w
-
-  lock_at : (vs : List (View E M)) (id : ℕ) (v : View E M) (l : Lock)
-      → get_elem? vs id ≡ some v → v.lock ≡ l → get_elem? (map lock_of vs) id ≡ some l
-  lock_at vs id v l at is = at_map lock_of vs id v at ∙ ap some is
-
-  -- a change that leaves the lock
-  locks_stay : (vs : List (View E M)) (id ticket serving : ℕ) (v w : View E M)
-      → get_elem? vs id ≡ some v → w.lock ≡ v.lock → Tickets (map lock_of vs) ticket serving
-      → Tickets (map lock_of (set vs id w)) ticket serving
-  locks_stay vs id ticket serving v w at same tickets =
-      subst (λ ls. Tickets ls ticket serving) (sym (map_kept lock_of vs id v w at same)) tickets
-
-  -- a change that leaves who the seat is
-  ranks_stay : (vs : List (View E M)) (id : ℕ) (v w : View E M) → get_elem? vs id ≡ some v
-      → rank_of w ≡ rank_of v → Seats (map rank_of vs) → Seats (map rank_of (set vs id w))
-  ranks_stay vs id v w at same seats =
-      subst Seats (sym (map_kept rank_of vs id v w at same)) seats
-
-  -- a change of the lock alone leaves who the seat is
-  same_rank : (v : View E M) (old new : Lock) → v.lock ≡ old → is_alive new ≡ is_alive old
-      → rank_of (relocked v new) ≡ rank_of v
-  same_rank v old new is same =
-      ap (λ b. record { alive = b; number = v.number; splits = v.splits; met = numbers v.met })
-      (same ∙ ap is_alive (sym is))
-
-  -- who a seat is once it took another in
-  met_rank : (v w : View E M) → rank_of (joined v w)
-      ≡ record (rank_of v) { met = (rank_of v).met ++ (rank_of w).number ∷ [] }
-  met_rank v w = ap (λ ns. record (rank_of v) { met = ns })
-      (map_pushed (λ m. m.number) v.met (met_as w))
-
-  -- who has seen no more than is published still has not
-  tops_kept : (shown : ℕ) (vs : List (View E M)) (id : ℕ) (v w : View E M)
-      → get_elem? vs id ≡ some v → w.published ≡ v.published
-      → All (λ x. x.published ≤ shown) vs → All (λ x. x.published ≤ shown) (set vs id w)
-  tops_kept shown vs id v w at same tops = All-set (λ x. x.published ≤ shown) vs id w
-      (subst (λ n. n ≤ shown) (sym same) (all_at (λ x. x.published ≤ shown) vs id v tops at)) tops
-
-  -- who knows the mark still does
-  marks_kept : (its : M) (vs : List (View E M)) (id : ℕ) (v w : View E M)
-      → get_elem? vs id ≡ some v → is_alive v.lock ≡ true → w.mark ≡ v.mark
-      → All (Knows its) vs → All (Knows its) (set vs id w)
-  marks_kept its vs id v w at alive same marks = All-set (Knows its) vs id w
-      (λ _. same ∙ all_at (Knows its) vs id v marks at alive) marks
-
-  -- a seat in use has its place as its number
-  number_is : (vs : List (View E M)) (id : ℕ) (v : View E M) → Seats (map rank_of vs)
-      → get_elem? vs id ≡ some v → is_alive v.lock ≡ true → v.number ≡ id
-  number_is vs id v seats at alive =
-      seats.numbered id (rank_of v) (at_map rank_of vs id v at) alive
+use Rattle.node_gate.proofs.Unmoved.{idle_unserved, relocked, locks_set, lock_at, locks_stay, ranks_stay, same_rank, met_rank, tops_kept, marks_kept, number_is}
 
 -- the word of the ticket that a seat still has
 pub ticket_is : {S E M : Type 0} (m m' : Me S (View E M)) (k word : ℕ) → m ≡ m'

@@ -25,7 +25,8 @@ use Rattle.node_meaning.specs.Steps.{is_certified_at, is_local}
 use Rattle.node_meaning.specs.Facts.{Facts, InOrder, HasUnit, AreApart}
 use Rattle.node_meaning.proofs.EntryLaws.{some_not_none, less_from}
 use Rattle.node_meaning.proofs.PassedLaws.{IsPassed, from_passed, none_touching}
-use Rattle.node_meaning.proofs.LockLaws.{lock_keys, keys_of_live, keys_of_unit, keys_at-session, keys_at-unit, apart-ended, apart-replaced, apart-unlocked, apart-extended, apart-started, apart-finished, apart-unit_done}
+use Rattle.node_meaning.proofs.LockLaws.{lock_keys, keys_of_live, keys_of_unit, keys_at-session, keys_at-unit}
+use Rattle.node_meaning.proofs.TouchedLocks.{apart-ended, apart-replaced, apart-unlocked, apart-extended, apart-started, apart-finished, apart-unit_done}
 use Rattle.node_meaning.proofs.ClientFacts.{remote_put, remote_left, free_of, first, no_lock}
 use Rattle.node_meaning.proofs.CertifyFacts.{later_unit}
 use Rattle.node_meaning.proofs.FinishFacts.{same_unit}

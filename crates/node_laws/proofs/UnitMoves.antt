@@ -23,7 +23,7 @@ use Rattle.node_meaning.specs.declared.progress.Stage.TheVariants.{Started, Fini
 use Rattle.node_meaning.specs.Node.{ModelNode, ApplyUnit, locks_of, set_live, send, send_any, ahead, passed_at}
 use Rattle.node_meaning.specs.Steps.{is_certified_at, is_local, told, killed_session, kill_session, started, touching_before, start_after, start_unit, start_step, finish_stage, finish_unit, finish_step}
 use Rattle.node_meaning.proofs.EntryLaws.{no_entry, entries_fail}
-use Rattle.node_meaning.proofs.LockLaws.{Touched, touched_in}
+use Rattle.node_meaning.proofs.TouchedLocks.{Touched, touched_in}
 use Rattle.node_meaning.proofs.StartFacts.{kills_fewer, kills_unlock}
 use Rattle.node_meaning.specs.Facts.{ProgressInRange}
 use Rattle.node_laws.proofs.Counts.{Grows, reach_grows}

@@ -15,7 +15,7 @@ use Rattle.client_trx.specs.declared.status.Outcome.{Outcome}
 use Rattle.client_trx.specs.declared.status.Outcome.TheVariants.{Lives, Ends}
 use Rattle.node_meaning.specs.Node.{ModelNode, ApplyUnit, locks_of, send_any, taken_back}
 use Rattle.node_meaning.specs.Steps.{told, ended_session, end_killed, sent_rollback, send_rollback, kill_session}
-use Rattle.node_meaning.proofs.LockLaws.{NoTwice, touching-no_twice}
+use Rattle.node_meaning.proofs.TouchedLocks.{NoTwice, touching-no_twice}
 use Rattle.node_meaning.proofs.StartFacts.{live-sent_rollback}
 
 -- ---- a rollback that is sent, and the end of a transaction

@@ -15,4 +15,5 @@ pub mod StartFacts
 pub mod StartImages
 pub mod StartNode
 pub mod TakeFacts
+pub mod TouchedLocks
 pub mod UnitLaws
