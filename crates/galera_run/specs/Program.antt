@@ -115,3 +115,8 @@ abbrev pub CutsRun : Option (List ℕ) → Option (List ℕ) → ℕ → ℕ →
 CutsRun left_old left_new before now old new =
     ((now ≡ before) × CutsText left_old old new)
     ⊎ (Rose before now × CutsUnread left_old left_new old new)
+
+-- nothing is left that was gathered; without memory nothing may have been written, and what was
+-- gathered before is left as it was
+abbrev pub LeavesNone : ℕ → List ℕ → List ℕ → Type 0
+LeavesNone status old new = (new ≡ []) ⊎ ((status ≡ 6) × (new ≡ old))

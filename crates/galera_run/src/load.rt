@@ -1,7 +1,8 @@
-ghost use Rattle.std.specs.Prelude.{◌≡◌, ◌≤◌, ◌<◌, [], ◌++◌, length, IfOk, IfErr, OnOk};
+ghost use Rattle.std.specs.Prelude.{◌≡◌, ◌≤◌, ◌<◌, [], ◌++◌, length, Err, IfOk, IfErr, OnOk};
 ghost use Rattle.script_text.specs.Load.{load_steps};
 ghost use Rattle.script_text.specs.Steps.{IsRunnable};
 ghost use Rattle.report_text.specs.Load.{counts_of};
+ghost use Rattle.galera_run.specs.declared.fault.RunFault.TheVariants as stop;
 ghost use Rattle.galera_run.specs.Feeding.{PrintStops, HasWriteCause};
 ghost use Rattle.galera_run.specs.Load.{load_start, load_run, load_summary, nodes_sum, TellsLoad, IsWithin, IsStepped, IsDone};
 ghost use Rattle.galera_run.specs.Replicated.{LoadReplicates};
@@ -37,6 +38,8 @@ pub fn run_load<K: Sink>(
     ensures ok { IfOk result (TellsLoad seed count (K.written out.old) (K.written out.new)) }
     ensures err { IfErr result
         (PrintStops (K.written out.old) (K.written out.new) (load_summary seed count)) }
+    ensures sent { OnOk result (K.unsent out.new ≡ []) }
+    ensures unsent { result ≡ Err stop.NoMemory → K.unsent out.new ≡ K.unsent out.old }
     ensures cause { HasWriteCause (K.faults out.old) (K.faults out.new) result }
     // The run whose summary is written is right.
     ensures right { LoadReplicates seed count }

@@ -1,4 +1,4 @@
-ghost use Rattle.std.specs.Prelude.{◌≡◌, ◌==◌, ◌<◌, ◌≤◌, length, position, OnOk, OnErr, IfSome};
+ghost use Rattle.std.specs.Prelude.{◌≡◌, ◌==◌, ◌<◌, ◌≤◌, [], length, position, OnOk, OnErr, IfSome};
 ghost use Rattle.std.specs.Io.KnownBytes.{Appends};
 ghost use Rattle.outside_io.specs.Outside.{HasCause};
 ghost use Rattle.galera_run.specs.Writing.{AppendsFront, first_line_len};
@@ -22,6 +22,7 @@ pub(crate) fn write_piece<K: Sink>(out: &mut K, piece: &[u8]) -> Result<(), Fail
 /// Writes the whole piece, and sends out what was gathered.
 pub(crate) fn write_out<K: Sink>(out: &mut K, piece: &[u8]) -> Result<(), Failed>
     ensures ok { OnOk result (Appends (K.written out.old) (K.written out.new) piece.now) }
+    ensures sent { OnOk result (K.unsent out.new ≡ []) }
     ensures err { OnErr result (AppendsFront (K.written out.old) (K.written out.new) piece.now) }
     ensures cause { HasCause (K.faults out.old) (K.faults out.new) result }
 {

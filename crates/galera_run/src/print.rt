@@ -1,4 +1,4 @@
-ghost use Rattle.std.specs.Prelude.{◌≡◌, IfOk, OnOk, IfErr};
+ghost use Rattle.std.specs.Prelude.{◌≡◌, [], IfOk, OnOk, IfErr};
 ghost use Rattle.std.specs.Io.KnownBytes.{Appends, Keeps};
 ghost use Rattle.report_text.specs.Texts.{line_text};
 ghost use Rattle.galera_run.specs.Feeding.{PrintStops, HasWriteCause};
@@ -50,6 +50,7 @@ fn print_piece<K: Sink>(text: &[u8], out: &mut K) -> Result<(), RunFault>
 pub(crate) fn print_lines<K: Sink>(text: &[u8], out: &mut K) -> Result<(), RunFault>
     ensures ok { OnOk result (Appends (K.written out.old) (K.written out.new) text.now) }
     ensures err { IfErr result (PrintStops (K.written out.old) (K.written out.new) text.now) }
+    ensures fault { IfErr result (λ fault. fault ≡ stop.Write) }
     ensures cause { HasWriteCause (K.faults out.old) (K.faults out.new) result }
 {
     match write_lines(out, text) {
@@ -61,7 +62,9 @@ pub(crate) fn print_lines<K: Sink>(text: &[u8], out: &mut K) -> Result<(), RunFa
 /// Prints lines, and sends them out.
 pub(crate) fn print_out<K: Sink>(text: &[u8], out: &mut K) -> Result<(), RunFault>
     ensures ok { OnOk result (Appends (K.written out.old) (K.written out.new) text.now) }
+    ensures sent { OnOk result (K.unsent out.new ≡ []) }
     ensures err { IfErr result (PrintStops (K.written out.old) (K.written out.new) text.now) }
+    ensures fault { IfErr result (λ fault. fault ≡ stop.Write) }
     ensures cause { HasWriteCause (K.faults out.old) (K.faults out.new) result }
 {
     match print_lines(text, out) {
@@ -73,6 +76,7 @@ pub(crate) fn print_out<K: Sink>(text: &[u8], out: &mut K) -> Result<(), RunFaul
 /// Sends out what was printed.
 pub(crate) fn send_printed<K: Sink>(out: &mut K) -> Result<(), RunFault>
     ensures kept { Keeps (K.written out.old) (K.written out.new) }
+    ensures sent { OnOk result (K.unsent out.new ≡ []) }
     ensures err { IfErr result (λ fault. fault ≡ stop.Write) }
     ensures cause { HasWriteCause (K.faults out.old) (K.faults out.new) result }
 {

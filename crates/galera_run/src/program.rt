@@ -1,8 +1,8 @@
-ghost use Rattle.std.specs.Prelude.{◌≡◌, ◌≢◌, ◌<◌, ◌⊎◌, map, string_bytes, Some, IfOk, IsTrue};
+ghost use Rattle.std.specs.Prelude.{◌≡◌, ◌≢◌, ◌<◌, ◌⊎◌, [], map, string_bytes, Some, IfOk, IsTrue};
 ghost use Rattle.std.specs.Io.KnownBytes.{Appends, Keeps};
 ghost use Rattle.galera_run.specs.Writing.{AppendsFront};
 ghost use Rattle.galera_run.specs.Words.{IsSteps, is_load, load_asked, HasCount};
-ghost use Rattle.galera_run.specs.Program.{refusal_text, cause_text, HasCauses, EndsAs, IsNoCommand, EndsUsage, TellsAsked, CutsAsked, TellsEnd, TellsLines, TellsRefused, TellsUnread, CutsRun};
+ghost use Rattle.galera_run.specs.Program.{refusal_text, cause_text, HasCauses, EndsAs, IsNoCommand, EndsUsage, TellsAsked, CutsAsked, TellsEnd, TellsLines, TellsRefused, TellsUnread, CutsRun, LeavesNone};
 ghost use Rattle.galera_run.specs.Replicated.{WritesRight, AskedReplicates, StepsEndWhole, LoadEndsWhole};
 
 use crate::fault::RunFault;
@@ -60,6 +60,8 @@ pub fn galera_steps<S: Source, K: Sink>(
         × TellsLines (S.left input.old) (K.written out.old) (K.written out.new))
         ⊎ (IsTrue (is_load (map string_bytes words.now))
         × Keeps (K.written out.old) (K.written out.new)) }
+    // Except where the sink failed, all that was gathered is out.
+    ensures sent { result ≢ 4 → LeavesNone result (K.unsent out.old) (K.unsent out.new) }
     // The run whose text went out is right, and so is that of a workload.
     ensures right { (IsSteps (map string_bytes words.now)
         → WritesRight (result ≡ 0) (S.left input.old) (K.written out.old) (K.written out.new))
@@ -91,6 +93,7 @@ fn do_load<K: Sink>(alloc: Global, asked: Asked, out: &mut K) -> u8
         → TellsAsked (Some asked) (K.written out.old) (K.written out.new) }
     ensures cut { result ≡ 4 → CutsAsked (Some asked) (K.written out.old) (K.written out.new) }
     ensures memory { result ≡ 6 → Keeps (K.written out.old) (K.written out.new) }
+    ensures sent { result ≢ 4 → LeavesNone result (K.unsent out.old) (K.unsent out.new) }
 {
     match run_load(alloc, asked.seed, asked.count, out) {
         Ok(_) => 0,
@@ -123,6 +126,7 @@ fn do_steps<S: Source, K: Sink>(
         (S.faults input.old) (S.faults input.new) (K.written out.old) (K.written out.new) }
     ensures memory { result ≡ 6 →
         TellsLines (S.left input.old) (K.written out.old) (K.written out.new) }
+    ensures sent { result ≢ 4 → K.unsent out.new ≡ [] }
 {
     match run_steps(alloc, input, out, watch) {
         Ok(_) => 0,
@@ -142,6 +146,7 @@ fn end_refused<K: Sink>(alloc: Global, line: u64, cause: ScriptCause, out: &mut 
     ensures cut { result ≡ 4 →
         AppendsFront (K.written out.old) (K.written out.new) (refusal_text line cause) }
     ensures memory { result ≡ 6 → Keeps (K.written out.old) (K.written out.new) }
+    ensures sent { result ≢ 4 → LeavesNone result (K.unsent out.old) (K.unsent out.new) }
 {
     match refusal_line(alloc, line, cause) {
         Ok(text) => end_with(out, text.as_slice(), 2),
@@ -177,6 +182,7 @@ fn end_with<K: Sink>(out: &mut K, text: &[u8], status: u8) -> u8
     ensures cause { EndsAs status result (K.faults out.old) (K.faults out.new) }
     ensures written { result ≡ status → Appends (K.written out.old) (K.written out.new) text.now }
     ensures cut { result ≡ 4 → AppendsFront (K.written out.old) (K.written out.new) text.now }
+    ensures sent { result ≡ status → K.unsent out.new ≡ [] }
 {
     match write_out(out, text) {
         Ok(()) => status,

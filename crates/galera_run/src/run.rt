@@ -1,4 +1,5 @@
-ghost use Rattle.std.specs.Prelude.{◌≡◌, ◌<◌, true, false, length, IsTrue, IfSome, OnOk, IfOk, IfErr};
+ghost use Rattle.std.specs.Prelude.{◌≡◌, ◌≢◌, ◌<◌, [], true, false, length, IsTrue, IfSome, Err, OnOk, IfOk, IfErr};
+ghost use Rattle.galera_run.specs.declared.fault.RunFault.TheVariants as stop;
 ghost use Rattle.std.specs.Io.KnownBytes.{IsAtEnd, Keeps};
 ghost use Rattle.galera_run.specs.Feeding.{IsSound, Reads, ReadStops, HasReadCause, HasWriteCause, read_count};
 ghost use Rattle.galera_run.specs.Outcome.{RunTells, RunStops, SendsOut};
@@ -37,6 +38,8 @@ pub fn run_steps<S: Source, K: Sink>(
         (RunStops (S.left input.old) (S.left input.new) (K.written out.old) (K.written out.new)) }
     ensures read { HasReadCause (S.faults input.old) (S.faults input.new) result }
     ensures write { HasWriteCause (K.faults out.old) (K.faults out.new) result }
+    // Nothing is left behind that was gathered.
+    ensures sent { result ≢ Err stop.Write → K.unsent out.new ≡ [] }
     // The run whose text was written is right, and so is that of the lines before a stop.
     ensures right { OnOk result (IfSome (S.left input.old)
         (λ bytes. TellsRight bytes (K.written out.old) (K.written out.new))) }
@@ -60,6 +63,7 @@ fn run_lines<S: Source, K: Sink, W: Watcher>(
         (RunStops (S.left input.old) (S.left input.new) (K.written out.old) (K.written out.new)) }
     ensures read { HasReadCause (S.faults input.old) (S.faults input.new) result }
     ensures write { HasWriteCause (K.faults out.old) (K.faults out.new) result }
+    ensures sent { result ≡ Err stop.Read → K.unsent out.new ≡ [] }
 {
     let mut script = Script {
         place: Place {
@@ -80,8 +84,10 @@ fn run_lines<S: Source, K: Sink, W: Watcher>(
 // Sends out what a run printed. Where its source failed nothing is left of that, and where its sink
 // failed no more is tried.
 fn send_behind<K: Sink>(ran: Result<Finished, RunFault>, out: &mut K) -> Result<Finished, RunFault>
+    requires { ran ≡ Err stop.Read → K.unsent out.old ≡ [] }
     ensures kept { Keeps (K.written out.old) (K.written out.new) }
     ensures sent { SendsOut ran result (K.faults out.old) (K.faults out.new) }
+    ensures unsent { result ≢ Err stop.Write → K.unsent out.new ≡ [] }
 {
     match ran {
         Err(RunFault::Read) | Err(RunFault::Write) => ran,
@@ -110,6 +116,7 @@ fn read_all<S: Source, K: Sink, W: Watcher>(
         (K.written out.new)) }
     ensures read { HasReadCause (S.faults input.old) (S.faults input.new) result }
     ensures write { HasWriteCause (K.faults out.old) (K.faults out.new) result }
+    ensures sent { result ≡ Err stop.Read → K.unsent out.new ≡ [] }
 {
     'reads: loop {
         match read_piece(alloc, script, input, out) {
@@ -140,6 +147,7 @@ fn read_piece<S: Source, K: Sink, W: Watcher>(
         (K.written out.new)) }
     ensures read { HasReadCause (S.faults input.old) (S.faults input.new) result }
     ensures write { HasWriteCause (K.faults out.old) (K.faults out.new) result }
+    ensures sent { result ≡ Err stop.Read → K.unsent out.new ≡ [] }
 {
     if let Err(fault) = send_printed(out) {
         return Err(fault);
@@ -147,14 +155,16 @@ fn read_piece<S: Source, K: Sink, W: Watcher>(
     run_piece(alloc, script, input, out)
 }
 
-// Runs the next piece of the source. False where there is none.
+// Reads the next piece of the source and runs it. False where there is none. All that was printed
+// is out by then: whoever waits for an answer before the next line has it.
 fn run_piece<S: Source, K: Sink, W: Watcher>(
     alloc: Global,
     script: &mut Script<W>,
     input: &mut S,
     out: &mut K,
 ) -> Result<bool, RunFault>
-    requires { IsSound script.old }
+    requires sound { IsSound script.old }
+    requires sent { K.unsent out.old ≡ [] }
     ensures ok { OnOk result
         (Reads (S.left input.old) (S.left input.new) script.old script.new (K.written out.old)
         (K.written out.new)) }
@@ -167,6 +177,7 @@ fn run_piece<S: Source, K: Sink, W: Watcher>(
         (K.written out.new)) }
     ensures read { HasReadCause (S.faults input.old) (S.faults input.new) result }
     ensures write { HasWriteCause (K.faults out.old) (K.faults out.new) result }
+    ensures sent { result ≡ Err stop.Read → K.unsent out.new ≡ [] }
 {
     let mut piece = [0; PIECE];
     match input.read(&mut piece) {

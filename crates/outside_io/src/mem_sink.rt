@@ -1,4 +1,4 @@
-ghost use Rattle.std.specs.Prelude.{◌≡◌, ◌≤◌, ◌+◌, ◌++◌, length, Some, IfOk, ◌<◌, vec_len, vec_capacity, IsOk};
+ghost use Rattle.std.specs.Prelude.{◌≡◌, ◌≤◌, ◌+◌, [], ◌++◌, length, Some, IfOk, ◌<◌, vec_len, vec_capacity, IsOk};
 ghost use Rattle.std.specs.Io.KnownBytes.{Keeps, WriteAppends};
 ghost use Rattle.outside_io.specs.Outside.{HasCause, WritesSome};
 ghost use Rattle.outside_io.specs.Memory.{write_answer, after_write};
@@ -62,6 +62,8 @@ impl MemSink {
 
 impl Sink for MemSink {
     ghost written = { λ sink. Some sink.written };
+
+    ghost unsent = { λ sink. [] };
 
     ghost faults = { λ sink. sink.faults };
 

@@ -1,4 +1,4 @@
-ghost use Rattle.std.specs.Prelude.{◌≡◌, [], IfOk, OnOk};
+ghost use Rattle.std.specs.Prelude.{◌≡◌, [], IfOk};
 ghost use Rattle.std.specs.Io.Buffered.{writer_buffer, writer_contents};
 ghost use Rattle.std.specs.Io.KnownBytes.{Keeps};
 ghost use Rattle.outside_io.specs.Outside.{HasCause};
@@ -54,6 +54,7 @@ impl<W: Write + Drop> StdSink<W> {
     pub fn new(alloc: Global, writer: W) -> Result<StdSink<W>, NoMemory>
         ensures written { IfOk result (λ sink.
             ⟦<StdSink<W> as Sink>⟧.written sink ≡ W.contents writer) }
+        ensures unsent { IfOk result (λ sink. ⟦<StdSink<W> as Sink>⟧.unsent sink ≡ []) }
         ensures faults { IfOk result (λ sink. ⟦<StdSink<W> as Sink>⟧.faults sink ≡ 0) }
     {
         match BufWriter::new(alloc, writer) {
@@ -65,6 +66,8 @@ impl<W: Write + Drop> StdSink<W> {
 
 impl<W: Write + Drop> Sink for StdSink<W> {
     ghost written = { λ sink. writer_contents W.contents sink.writer };
+
+    ghost unsent = { λ sink. writer_buffer sink.writer };
 
     ghost faults = { λ sink. sink.faults };
 
@@ -79,13 +82,7 @@ impl<W: Write + Drop> Sink for StdSink<W> {
         }
     }
 
-    /// After Ok nothing is left that was gathered.
-    fn send_out(&mut self) -> Result<(), Failed>
-        ensures bytes { Keeps (writer_contents W.contents self.old.writer)
-            (writer_contents W.contents self.new.writer) }
-        ensures cause { HasCause self.old.faults self.new.faults result }
-        ensures out { OnOk result (writer_buffer self.new.writer ≡ []) }
-    {
+    fn send_out(&mut self) -> Result<(), Failed> {
         match self.writer.flush() {
             Ok(()) => Ok(()),
             Err(_) => {
